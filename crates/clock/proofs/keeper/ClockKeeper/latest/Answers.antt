@@ -1,0 +1,23 @@
+use Prim.Native.Nat.{_+_, _-_}
+use mathlib.Core.Path.{sym, _∙_}
+use native.Mathlib.Omega.{arith}
+use denote.Ref.{now}
+use Rattle.clock.specs.Rows.{processor-of}
+use Rattle.clock.proofs.Places.{place}
+use Rattle.clock.proofs.Clocks.{latest-here, latest-earlier}
+use Rattle.clock.proofs.keeper.ClockKeeper.latest.Needs as need
+
+pub index-self-k : need.index-self-k
+index-self-k c =
+    let s = c .args .self .now in
+    omega (arith, place (c .loop-k .k - 1) (s .count) (s .capacity) (s .processors + 1) 0 _ (omega (arith, c .loop-k-test .taken, c .loop-k .kept .k)) (s .filled) (s .within) (omega arith))
+
+pub returns-then-self-k : need.returns-then-self-k
+returns-then-self-k c =
+    let s = c .args .self .now in
+    sym (latest-here (processor-of (now (s .numbers)) (s .processors)) (c .args .processor) (c .loop-k .k) (c .loop-k-test .taken) (c .if-self-k .taken)) ∙ c .loop-k .inv
+
+pub loop-k-again : need.loop-k-again
+loop-k-again c =
+    let s = c .args .self .now in
+    sym (latest-earlier (processor-of (now (s .numbers)) (s .processors)) (c .args .processor) (c .loop-k .k) (c .loop-k-test .taken) (c .if-self-k .left)) ∙ c .loop-k .inv

@@ -1,0 +1,5 @@
+pub mod Verdicts
+pub mod Asking
+pub mod Checking
+pub mod Admitting
+pub mod Reaching

@@ -1,0 +1,7 @@
+pub mod Meaning
+pub mod Refusals
+pub mod Made
+pub mod Adding
+pub mod Asking
+pub mod Renumbering
+pub mod Layers

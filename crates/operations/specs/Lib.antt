@@ -1,0 +1,8 @@
+pub mod Kinds
+pub mod Bytes
+pub mod Words
+pub mod Rules
+pub mod Events
+pub mod Sources
+pub mod Races
+pub mod History

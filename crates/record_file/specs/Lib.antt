@@ -1,0 +1,5 @@
+pub mod Placing
+pub mod Refusals
+pub mod WordTypes
+pub mod Directory
+pub mod Records
