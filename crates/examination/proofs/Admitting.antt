@@ -52,12 +52,13 @@ module _ (G : Setting) (E : Exam) (e : Event) where
       let a = accepted (E .keeper) (e .processor) (giver-of G E e) k add in
       let same : k ≡ E .numbers .admitted = a .number ∙ p .count in
       let is : admission G E e ≡ Ok (record { number = E .numbers .admitted; partner = partner-of G E e }) =
-        ap₂ (λ c r. unless-refused c (number-with (partner-of G E e) r)) ok add ∙ ap (λ j. Ok (record { number = j; partner = partner-of G E e })) same in
+      ap₂ (λ c r. unless-refused c (number-with (partner-of G E e) r)) ok add ∙ ap (λ j. Ok (record { number = j; partner = partner-of G E e })) same in
       record {
         passes = p;
         adds = record { admitted = a .admitted; given = a .given; room = a .room; number = sym (p .count) };
         answer = is;
-        after = ap (grown G E e) is }
+        after = ap (grown G E e) is;
+      }
 
   pub refused-by : (f : ExamFault) → admission G E e ≡ Err f → Refused
   refused-by f is = record { fault = f; answer = is; after = ap (grown G E e) is }
@@ -121,20 +122,21 @@ module _ {W : Type 0} (value : W → List ℤ) (G : Setting) (xs : List (Operati
         pub written : xs₁ ≡ set xs (o .admitted) op
 
       pub done : (m₁ : Meaning) → m₁ ≡ after-addition m (op .processor) giver → (xs₁ : List (Operation W)) → xs₁ ≡ set xs k op
-        → (partner : Option ℕ) → partner ≡ racing-partner (m₁ .before) (at (events value xs₁)) k → (m₂ : Meaning) → m₂ ≡ m₁ → (o₁ : Open) → tally o₁ ≡ noted (tally o) partner
-        → Done xs₁ m₂ o₁ partner
+          → (partner : Option ℕ) → partner ≡ racing-partner (m₁ .before) (at (events value xs₁)) k → (m₂ : Meaning) → m₂ ≡ m₁ → (o₁ : Open) → tally o₁ ≡ noted (tally o) partner
+          → Done xs₁ m₂ o₁ partner
       done m₁ m₁-is xs₁ xs₁-is partner partner-is m₂ m₂-is o₁ o₁-is =
           let fuller-is : m₁ ≡ fuller G E e = m₁-is ∙ ap (answered m (op .processor) giver) (sym add) ∙ ap (added m (op .processor)) gives in
           let events-is : events value xs₁ ≡ longer E e = ap (events value) xs₁-is ∙ map-set (event value) xs k op ∙ ap (λ j. set (events value xs) j e) number-is in
           let same : partner ≡ partner-of G E e =
-            partner-is
-            ∙ ap (λ x. racing-partner (x .before) (at (events value xs₁)) k) fuller-is
-            ∙ ap (λ es. racing-partner (fuller G E e .before) (at es) k) events-is
-            ∙ ap (racing-partner (fuller G E e .before) (at (longer E e))) number-is in
+          partner-is
+          ∙ ap (λ x. racing-partner (x .before) (at (events value xs₁)) k) fuller-is
+          ∙ ap (λ es. racing-partner (fuller G E e .before) (at es) k) events-is
+          ∙ ap (racing-partner (fuller G E e .before) (at (longer E e))) number-is in
           let keeper-is : m₂ ≡ fuller G E e = m₂-is ∙ fuller-is in
           let numbers-is : tally o₁ ≡ noted (tally o) (partner-of G E e) = o₁-is ∙ ap (noted (tally o)) same in
           let grown-is : exam value xs₁ m₂ o₁ ≡ next-exam G E e = λ i. record { events = events-is i; keeper = keeper-is i; numbers = numbers-is i } in
           record {
             answer = ap₂ (λ j p. Ok (record { number = j; partner = p })) number-is same ∙ sym (is-taken .answer);
             after = grown-is ∙ sym (is-taken .after);
-            written = xs₁-is ∙ ap (λ j. set xs j op) number-is }
+            written = xs₁-is ∙ ap (λ j. set xs j op) number-is;
+          }

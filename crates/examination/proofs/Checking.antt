@@ -68,17 +68,17 @@ passed start E e ok =
     let n = E .numbers .admitted in
     ⊎-elim
     (λ (p : n < length (E .events)).
-      ⊎-elim
-      (λ (c : held (E .keeper) ≡ n).
-        ⊎-elim
-        (λ (k : e .class < most-classes).
-          ⊎-elim
-          (λ (w : fits-source start (at (E .events)) n e ≡ true). record { place = p; count = c; class = k; word = w })
-          (λ (w : fits-source start (at (E .events)) n e ≡ false). never WordDiffers (checks start E e) (wrong start E e p c k w) ok)
-          (cases-bool (fits-source start (at (E .events)) n e)))
-        (λ (k : most-classes ≤ e .class). never ClassTooHigh (checks start E e) (high start E e p c k) ok)
-        (cases-lt (e .class) most-classes))
-      (λ (c : held (E .keeper) ≡ n → ⊥). never CountDiffers (checks start E e) (differs start E e p c) ok)
-      (cases-eq (held (E .keeper)) n))
+    ⊎-elim
+    (λ (c : held (E .keeper) ≡ n).
+    ⊎-elim
+    (λ (k : e .class < most-classes).
+    ⊎-elim
+    (λ (w : fits-source start (at (E .events)) n e ≡ true). record { place = p; count = c; class = k; word = w })
+    (λ (w : fits-source start (at (E .events)) n e ≡ false). never WordDiffers (checks start E e) (wrong start E e p c k w) ok)
+    (cases-bool (fits-source start (at (E .events)) n e)))
+    (λ (k : most-classes ≤ e .class). never ClassTooHigh (checks start E e) (high start E e p c k) ok)
+    (cases-lt (e .class) most-classes))
+    (λ (c : held (E .keeper) ≡ n → ⊥). never CountDiffers (checks start E e) (differs start E e p c) ok)
+    (cases-eq (held (E .keeper)) n))
     (λ (p : length (E .events) ≤ n). never RecordShort (checks start E e) (short start E e p) ok)
     (cases-lt n (length (E .events)))

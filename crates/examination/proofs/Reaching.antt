@@ -43,7 +43,8 @@ opened-sound G E o =
     let none : E .numbers .admitted ≡ 0 = ap (λ t. t .admitted) (o .numbers) in
     record {
       keeps = empty-keeps (history G E) (E .keeper) none (o .empty);
-      numbers = o .numbers ∙ ap (tally-of (E .keeper .before) (at (E .events))) (sym none) }
+      numbers = o .numbers ∙ ap (tally-of (E .keeper .before) (at (E .events))) (sym none);
+    }
 
 module _ (G : Setting) (E : Exam) (e : Event) (place : E .numbers .admitted < length (E .events)) (sound : Sound G E) where
   abbrev n : ℕ
@@ -58,9 +59,10 @@ module _ (G : Setting) (E : Exam) (e : Event) (place : E .numbers .admitted < le
 
   grows : Grows (history G E) grown-run
   grows = record {
-      size = refl;
-      same = (λ k h. getD-set-other (E .events) n k e nothing (omega arith));
-      rule = λ c d. refl }
+    size = refl;
+    same = (λ k h. getD-set-other (E .events) n k e nothing (omega arith));
+    rule = λ c d. refl;
+  }
 
   next-keeps : Keeps grown-run (fuller G E e)
   next-keeps = subst (λ x. Keeps grown-run (kept.grown (E .keeper) (history G E) x)) newest (grown-keeps (history G E) grown-run (E .keeper) grows (sound .keeps))
@@ -75,14 +77,15 @@ module _ (G : Setting) (E : Exam) (e : Event) (place : E .numbers .admitted < le
 
   pub next-sound : Sound G (next-exam G E e)
   next-sound = record {
-      keeps = subst (λ k. Keeps (record { size = k; op = at (longer E e); pairs = G .pairs }) (fuller G E e)) next-size next-keeps;
-      numbers = next-tally ∙ ap (tally-of (fuller G E e .before) (at (longer E e))) next-size }
+    keeps = subst (λ k. Keeps (record { size = k; op = at (longer E e); pairs = G .pairs }) (fuller G E e)) next-size next-keeps;
+    numbers = next-tally ∙ ap (tally-of (fuller G E e .before) (at (longer E e))) next-size;
+  }
 
 admission-sound : (G : Setting) (E : Exam) (e : Event) → Sound G E → Sound G (after-admission G E e)
 admission-sound G E e s = ⊎-elim
-  (λ (t : Taken G E e). subst (Sound G) (sym (t .after)) (next-sound G E e (t .passes .place) s))
-  (λ (r : Refused G E e). subst (Sound G) (sym (r .after)) s)
-  (cases-admission G E e)
+    (λ (t : Taken G E e). subst (Sound G) (sym (t .after)) (next-sound G E e (t .passes .place) s))
+    (λ (r : Refused G E e). subst (Sound G) (sym (r .after)) s)
+    (cases-admission G E e)
 
 after-sound : (G : Setting) (E : Exam) (c : Call) → Sound G E → Sound G (after G E c)
 after-sound G E (admit e) s = admission-sound G E e s
@@ -102,22 +105,22 @@ module _ (H : History) (m : Meaning) (keeps : Keeps H m) (a b : ℕ) where
       let count : eqb (held m) (H .size) ≡ true = eq-eqb _ _ (keeps .count) in
       let answer : order-answer m (H .size) a b ≡ from-keeper (order m a b) = ap (λ t. cond t (from-keeper (order m a b)) (Err CountDiffers)) count in
       subst (Ordered H a b) (sym answer) (⊎-elim
-        (λ (h : a < H .size). ⊎-elim
-          (λ (k : b < H .size).
-            let t : ltb a (held m) ≡ true = lt-ltb a (held m) (omega (arith, keeps .count)) in
-            let u : ltb b (held m) ≡ true = lt-ltb b (held m) (omega (arith, keeps .count)) in
-            let is : order m a b ≡ Ok (m .before a b) = simp (t, u) in
-            subst (λ r. Ordered H a b (from-keeper r)) (sym is) (h, k, keeps .order a b h k))
-          (λ (k : H .size ≤ b).
-            let u : ltb b (held m) ≡ false = le-ltb b (held m) (omega (arith, keeps .count)) in
-            let is : order m a b ≡ Err NotHeld = ap (λ t. cond t (Ok (m .before a b)) (Err NotHeld)) (and-right (ltb a (held m)) (ltb b (held m)) u) in
-            subst (λ r. Ordered H a b (from-keeper r)) (sym is) (refl, λ x y. omega arith))
-          (cases-lt b (H .size)))
-        (λ (h : H .size ≤ a).
-          let t : ltb a (held m) ≡ false = le-ltb a (held m) (omega (arith, keeps .count)) in
-          let is : order m a b ≡ Err NotHeld = simp t in
-          subst (λ r. Ordered H a b (from-keeper r)) (sym is) (refl, λ x y. omega arith))
-        (cases-lt a (H .size)))
+      (λ (h : a < H .size). ⊎-elim
+      (λ (k : b < H .size).
+      let t : ltb a (held m) ≡ true = lt-ltb a (held m) (omega (arith, keeps .count)) in
+      let u : ltb b (held m) ≡ true = lt-ltb b (held m) (omega (arith, keeps .count)) in
+      let is : order m a b ≡ Ok (m .before a b) = simp (t, u) in
+      subst (λ r. Ordered H a b (from-keeper r)) (sym is) (h, k, keeps .order a b h k))
+      (λ (k : H .size ≤ b).
+      let u : ltb b (held m) ≡ false = le-ltb b (held m) (omega (arith, keeps .count)) in
+      let is : order m a b ≡ Err NotHeld = ap (λ t. cond t (Ok (m .before a b)) (Err NotHeld)) (and-right (ltb a (held m)) (ltb b (held m)) u) in
+      subst (λ r. Ordered H a b (from-keeper r)) (sym is) (refl, λ x y. omega arith))
+      (cases-lt b (H .size)))
+      (λ (h : H .size ≤ a).
+      let t : ltb a (held m) ≡ false = le-ltb a (held m) (omega (arith, keeps .count)) in
+      let is : order m a b ≡ Err NotHeld = simp t in
+      subst (λ r. Ordered H a b (from-keeper r)) (sym is) (refl, λ x y. omega arith))
+      (cases-lt a (H .size)))
 
 pub order-exact : (m : Meaning) (n a b : ℕ) (r : Result Bool ExamFault) → r ≡ order-answer m n a b → OrderExact m n a b r
 order-exact m n a b r is G E reached same count =
@@ -130,10 +133,11 @@ admission-exact G E e r is reached =
     let s = reached-sound G E reached in
     ⊎-elim
     (λ (t : Taken G E e).
-      subst (λ x. Partnered (history G x) r) (sym (t .after))
-      (subst (Partnered (history G (next-exam G E e))) (sym (is ∙ t .answer))
-        (noted-admitted (E .numbers) (partner-of G E e),
-          partner-exact (history G (next-exam G E e)) (fuller G E e) (next-sound G E e (t .passes .place) s .keeps) (E .numbers .admitted) (omega (arith, noted-admitted (E .numbers) (partner-of G E e))))))
+    subst (λ x. Partnered (history G x) r) (sym (t .after))
+    (subst (Partnered (history G (next-exam G E e))) (sym (is ∙ t .answer)) (
+      noted-admitted (E .numbers) (partner-of G E e),
+      partner-exact (history G (next-exam G E e)) (fuller G E e) (next-sound G E e (t .passes .place) s .keeps) (E .numbers .admitted) (omega (arith, noted-admitted (E .numbers) (partner-of G E e))),
+    )))
     (λ (t : Refused G E e). subst (Partnered (history G (after-admission G E e))) (sym (is ∙ t .answer)) tt)
     (cases-admission G E e)
 
@@ -144,16 +148,16 @@ verdict-here G E s =
     let t = tally-of (E .keeper .before) (at (E .events)) (E .numbers .admitted) in
     subst (λ x. Holds H (closing x)) (sym (s .numbers))
     (⊎-elim
-      (λ (z : t .racing ≡ 0).
-        let q : eqb (t .racing) 0 ≡ true = eq-eqb (t .racing) 0 z in
-        subst (λ b. Holds H (cond b (race-free (t .admitted)) (racy (t .admitted) (t .racing) (pair-or-none (t .first))))) (sym q)
-          (ap (λ x. x .admitted) (sym (s .numbers)), tally-clear H (E .keeper) (s .keeps) (tally-none (E .keeper .before) (at (E .events)) (E .numbers .admitted) z)))
-      (λ (z : t .racing ≡ 0 → ⊥).
-        let q : eqb (t .racing) 0 ≡ false = ne-eqb (t .racing) 0 z in
-        let some : isSome (t .first) ≡ true = tally-tied (E .keeper .before) (at (E .events)) (E .numbers .admitted) ∙ lt-ltb 0 (t .racing) (omega arith) in
-        subst (λ b. Holds H (cond b (race-free (t .admitted)) (racy (t .admitted) (t .racing) (pair-or-none (t .first))))) (sym q)
-          (ap (λ x. x .admitted) (sym (s .numbers)), shown H (t .racing) (t .first) some (λ a b f. tally-racy H (E .keeper) (s .keeps) a b f)))
-      (cases-eq (t .racing) 0))
+    (λ (z : t .racing ≡ 0).
+    let q : eqb (t .racing) 0 ≡ true = eq-eqb (t .racing) 0 z in
+    subst (λ b. Holds H (cond b (race-free (t .admitted)) (racy (t .admitted) (t .racing) (pair-or-none (t .first))))) (sym q)
+    (ap (λ x. x .admitted) (sym (s .numbers)), tally-clear H (E .keeper) (s .keeps) (tally-none (E .keeper .before) (at (E .events)) (E .numbers .admitted) z)))
+    (λ (z : t .racing ≡ 0 → ⊥).
+    let q : eqb (t .racing) 0 ≡ false = ne-eqb (t .racing) 0 z in
+    let some : isSome (t .first) ≡ true = tally-tied (E .keeper .before) (at (E .events)) (E .numbers .admitted) ∙ lt-ltb 0 (t .racing) (omega arith) in
+    subst (λ b. Holds H (cond b (race-free (t .admitted)) (racy (t .admitted) (t .racing) (pair-or-none (t .first))))) (sym q)
+    (ap (λ x. x .admitted) (sym (s .numbers)), shown H (t .racing) (t .first) some (λ a b f. tally-racy H (E .keeper) (s .keeps) a b f)))
+    (cases-eq (t .racing) 0))
   where
     shown : (H : History) (count : ℕ) (first : Option (ℕ × ℕ)) → isSome first ≡ true → ((a b : ℕ) → first ≡ Some (a, b) → RacyAs H count a b) → RacyAs H count (pair-or-none first .0) (pair-or-none first .1)
     shown H count None e f = absurd (false≢true e)

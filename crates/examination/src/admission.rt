@@ -9,7 +9,6 @@ use operations::Operation;
 use operations::PairingRule;
 use operations::Word;
 use operations::word_fits;
-
 ghost use lib.ListN.{length, set};
 ghost use mathlib.Core.Path.{_≡_};
 ghost use Prim.Native.Nat.{_<_};
@@ -85,7 +84,11 @@ impl Open {
             Some(partner) if self.racing == 0 => Some(RacingPair { partner, operation }),
             _ => self.first,
         };
-        let racing = if partner.is_some() { self.racing + 1 } else { self.racing };
+        let racing = if partner.is_some() {
+            self.racing + 1
+        } else {
+            self.racing
+        };
         *self = Open {
             admitted: operation + 1,
             racing,

@@ -1,7 +1,6 @@
 use crate::open::Open;
 use crate::race_free::RaceFree;
 use crate::racy::Racy;
-
 ghost use mathlib.Core.Path.{_≡_};
 ghost use Rattle.examination.specs.Admission.{tally};
 ghost use Rattle.examination.specs.Closing.{closing, said};

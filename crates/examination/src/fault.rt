@@ -4,7 +4,6 @@ use keepers::KeeperFaultDebug;
 use keepers::KeeperFaultEq;
 use keepers::KeeperFaultPartialEq;
 use keepers::Refusal;
-
 ghost use mathlib.Core.Path.{_≡_};
 ghost use Rattle.examination.specs.Refusals.{exam-refusal};
 ghost use Rattle.examination.specs.declared.fault.ExamFault.the-variants.{Keeper as InExam};

@@ -1,7 +1,6 @@
 use crate::fault::ExamFault;
 use crate::order::ordered;
 use keepers::Keeper;
-
 ghost use mathlib.Core.Path.{_≡_};
 ghost use Rattle.examination.specs.Asking.{order-answer};
 ghost use Rattle.examination.specs.Runs.{OrderExact};

@@ -4,7 +4,6 @@ use operations::PairingRule;
 use operations::Word;
 use operations::may_race;
 use operations::paired_release;
-
 ghost use lib.ListN.{length};
 ghost use mathlib.Core.Path.{_≡_};
 ghost use Prim.Native.Nat.{_<_, _≤_};

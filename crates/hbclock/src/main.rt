@@ -17,7 +17,6 @@ use std::io;
 use std::io::Read;
 use table::print_refusal;
 use table::print_run;
-
 ghost use lib.ListN.{length};
 ghost use Prim.Native.Nat.{_≤_};
 ghost use Rattle.std.specs.Vec.{made};

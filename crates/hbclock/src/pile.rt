@@ -11,11 +11,9 @@ use operations::StepRule;
 use operations::Word;
 use reader::examine;
 use record_file::FileFault;
-
 ghost use mathlib.Core.Path.{_≡_};
 ghost use Rattle.examination.specs.Admission.{setting};
-ghost use Rattle.hbclock.specs.Pile.{mirrored, pile-over, run-listed};
-ghost use Rattle.keepers.specs.Meaning.{held};
+ghost use Rattle.hbclock.specs.Pile.{mirrored, pile-over, listed, run-listed};
 ghost use Rattle.operations.specs.Rules.{step-pairs};
 ghost use Rattle.reader.specs.Examining.{answered, examined, Told};
 ghost use Rattle.record_file.specs.Records.{file-items};
@@ -45,7 +43,8 @@ pub fn find<W: Word, K: Keeper + Drop>(
     partners: &mut [Option<u16>],
     keeper: K,
 ) -> Finding
-    ensures outcome { λ r. ⌜ record { answer = answered (r .verdict); log = now (log .exit); partners = now (partners .exit) } ≡ run-listed (examined (W·Word .value) (setting step-pairs (W·Word .start)) (now (log .entry)) (pile-over (K·Keeper .meaning keeper)) (now (partners .entry)) (file-items (W·Word .decoded) (W·Word .size) (now (file .entry)))) ⌝ }
+    ensures outcome { λ r. ⌜ record { answer = answered (r .verdict); admitted = r .admitted; log = now (log .exit); partners = now (partners .exit) } ≡ listed (examined (W·Word .value) (setting step-pairs (W·Word .start)) (now (log .entry)) (pile-over (K·Keeper .meaning keeper)) (now (partners .entry)) (file-items (W·Word .decoded) (W·Word .size) (now (file .entry)))) ⌝ }
+    ensures exact { λ r. ⌜ Told (run-listed (W·Word .value) (now (log .exit)) (r .admitted)) (r .verdict) ⌝ }
 {
     let mut pile = Renumber::new(mirrored_list(), Allowance::new(512, keeper));
     let verdict = examine(file, log, &mut pile, &StepRule, partners);

@@ -23,7 +23,7 @@ pub accepted : (m : Meaning) (p : ℕ) (giver : Option ℕ) (k : ℕ) → additi
 accepted m p giver k e = go (m .admits p) (giver-held m giver) (ltb 0 (m .room)) refl refl refl e
   where
     go : (a b c : Bool) → m .admits p ≡ a → giver-held m giver ≡ b → ltb 0 (m .room) ≡ c
-      → _≡_ {A = Result ℕ KeeperFault} (cond a (cond b (cond c (Ok (held m)) (Err NoRoom)) (Err GiverNotHeld)) (Err NotAdmitted)) (Ok k) → Accepted m p giver k
+        → _≡_ {A = Result ℕ KeeperFault} (cond a (cond b (cond c (Ok (held m)) (Err NoRoom)) (Err GiverNotHeld)) (Err NotAdmitted)) (Ok k) → Accepted m p giver k
     go true true true ea eb ec e = record { admitted = ea; given = eb; room = ltb-true 0 (m .room) ec; number = (cc) }
     go true true false ea eb ec e = absurd (let z : _≡_ {A = ℕ} 0 1 = cc in omega arith)
     go true false c ea eb ec e = absurd (let z : _≡_ {A = ℕ} 0 1 = cc in omega arith)

@@ -1,6 +1,5 @@
 use crate::Keeper;
 use crate::KeeperFault;
-
 ghost use mathlib.Core.Path.{_≡_};
 ghost use Rattle.keepers.specs.Layers.{allowed, allowed-bounded};
 

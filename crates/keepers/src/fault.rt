@@ -1,6 +1,5 @@
 use crate::refusal::Adds;
 use crate::refusal::Refusal;
-
 ghost use mathlib.Core.Path.{_≡_};
 ghost use Rattle.keepers.specs.Refusals.{keeper-refusal};
 

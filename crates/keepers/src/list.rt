@@ -1,5 +1,4 @@
 use crate::KeeperFault;
-
 ghost use mathlib.Core.Path.{_≡_};
 ghost use Prim.Native.Nat.{ℕ, _<_, _≤_};
 ghost use lib.ListN.{length, getD};
@@ -21,7 +20,9 @@ impl RenumberList {
     pub fn new() -> RenumberList
         ensures { λ r. ⌜ r .entries ≡ counting 0 16 ⌝ }
     {
-        RenumberList { entries: [0, 1, 2, 3, 4, 5, 6, 7, 8, 9, 10, 11, 12, 13, 14, 15] }
+        RenumberList {
+            entries: [0, 1, 2, 3, 4, 5, 6, 7, 8, 9, 10, 11, 12, 13, 14, 15],
+        }
     }
 
     // Sets the whole list, or refuses and leaves it as it was.

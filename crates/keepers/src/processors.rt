@@ -1,5 +1,4 @@
 use crate::KeeperFault;
-
 ghost use mathlib.Core.Path.{_≡_};
 ghost use Prim.Native.Nat.{_<_, _≤_};
 ghost use Rattle.keepers.specs.Meaning.{most-processors};

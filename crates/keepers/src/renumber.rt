@@ -1,7 +1,6 @@
 use crate::Keeper;
 use crate::KeeperFault;
 use crate::RenumberList;
-
 ghost use mathlib.Core.Path.{_≡_};
 ghost use Rattle.keepers.specs.Layers.{renumbered, renumbered-bounded, renumbered-numbered};
 

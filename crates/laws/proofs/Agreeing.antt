@@ -45,7 +45,8 @@ module _ (m : ℕ) (H H′ : History) (g : Agree m H H′) where
         earlier = s .earlier;
         write = writes-agree w w< (s .write);
         there = sym (location-agree w w<) ∙ s .there;
-        none-later = λ v a b c d. s .none-later v a b (writes-back v (omega arith) c) (location-agree v (omega arith) ∙ d) }
+        none-later = λ v a b c d. s .none-later v a b (writes-back v (omega arith) c) (location-agree v (omega arith) ∙ d);
+      }
 
   pub source-agree : (r w : ℕ) → r < m → Source H r w → Source H′ r w
   source-agree r w h s = subst (λ l. LatestWrite H′ l r w) (location-agree r h) (latest-agree (H .op r .location) r w (omega arith) s)
@@ -59,9 +60,10 @@ module _ (m : ℕ) (H H′ : History) (g : Agree m H H′) where
         acquire = subst (λ (o : Event). acquire-kind (o .kind) ≡ true) (g .ops b h) (p .acquire);
         source = source-agree b a h (p .source);
         rule =
-          sym (g .rule (H′ .op a .class) (H′ .op b .class))
-          ∙ subst (λ (o : Event). H .pairs (o .class) (H′ .op b .class) ≡ true) (g .ops a a<)
-            (subst (λ (o : Event). H .pairs (H .op a .class) (o .class) ≡ true) (g .ops b h) (p .rule)) }
+            sym (g .rule (H′ .op a .class) (H′ .op b .class))
+            ∙ subst (λ (o : Event). H .pairs (o .class) (H′ .op b .class) ≡ true) (g .ops a a<)
+            (subst (λ (o : Event). H .pairs (H .op a .class) (o .class) ≡ true) (g .ops b h) (p .rule));
+      }
 
   pub next-agree : (a b : ℕ) → b < m → b < H′ .size → Next H a b → Next H′ a b
   next-agree a b h k p =
@@ -70,7 +72,8 @@ module _ (m : ℕ) (H H′ : History) (g : Agree m H H′) where
         later = p .later;
         inside = k;
         same = sym (processor-agree a a<) ∙ p .same ∙ processor-agree b h;
-        none-between = λ c l u e. p .none-between c l u (processor-agree c (omega arith) ∙ e ∙ sym (processor-agree b h)) }
+        none-between = λ c l u e. p .none-between c l u (processor-agree c (omega arith) ∙ e ∙ sym (processor-agree b h));
+      }
 
   pub arrow-agree : (a b : ℕ) → b < m → b < H′ .size → Arrow H a b → Arrow H′ a b
   arrow-agree a b h k (inl p) = inl (next-agree a b h k p)
@@ -82,19 +85,21 @@ module _ (m : ℕ) (H H′ : History) (g : Agree m H H′) where
 
   pub conflict-agree : (a b : ℕ) → a < m → b < m → Conflict H a b → Conflict H′ a b
   conflict-agree a b h k c = record {
-      two = c .two;
-      shared = sym (location-agree a h) ∙ c .shared ∙ location-agree b k;
-      one-writes = ⊎-elim (λ (w : Writes H a). inl (writes-agree a h w)) (λ (w : Writes H b). inr (writes-agree b k w)) (c .one-writes) }
+    two = c .two;
+    shared = sym (location-agree a h) ∙ c .shared ∙ location-agree b k;
+    one-writes = ⊎-elim (λ (w : Writes H a). inl (writes-agree a h w)) (λ (w : Writes H b). inr (writes-agree b k w)) (c .one-writes);
+  }
 
   pub one-data-agree : (a b : ℕ) → a < m → b < m → IsData H a ⊎ IsData H b → IsData H′ a ⊎ IsData H′ b
   one-data-agree a b h k p = ⊎-elim (λ (w : IsData H a). inl (data-agree a h w)) (λ (w : IsData H b). inr (data-agree b k w)) p
 
 pub race-agree : (m : ℕ) (H H′ : History) → Agree m H H′ → m ≤ H .size → (a b : ℕ) → a < m → b < m → Race H a b → Race H′ a b
 race-agree m H H′ g s a b h k r = record {
-    conflict = conflict-agree m H H′ g a b h k (r .conflict);
-    one-data = one-data-agree m H H′ g a b h k (r .one-data);
-    not-before = (λ p. r .not-before (before-agree m H′ H (agree-flip g) k s p));
-    not-after = (λ p. r .not-after (before-agree m H′ H (agree-flip g) h s p)) }
+  conflict = conflict-agree m H H′ g a b h k (r .conflict);
+  one-data = one-data-agree m H H′ g a b h k (r .one-data);
+  not-before = (λ p. r .not-before (before-agree m H′ H (agree-flip g) k s p));
+  not-after = (λ p. r .not-after (before-agree m H′ H (agree-flip g) h s p));
+}
 
 -- a run that agrees with a race-free one as far as it goes is race-free
 pub free-agree : (H H′ : History) → Agree (H .size) H H′ → H .size ≤ H′ .size → RaceFree H′ → RaceFree H

@@ -33,10 +33,10 @@ latest-write-one H l m v w p q =
     ⊎-elim
     (λ (e : v ≡ w). e)
     (λ (s : (v < w) ⊎ (w < v)).
-      ⊎-elim
-      (λ (u : v < w). absurd (p .none-later w u (q .earlier) (q .write) (q .there)))
-      (λ (u : w < v). absurd (q .none-later v u (p .earlier) (p .write) (p .there)))
-      s)
+    ⊎-elim
+    (λ (u : v < w). absurd (p .none-later w u (q .earlier) (q .write) (q .there)))
+    (λ (u : w < v). absurd (q .none-later v u (p .earlier) (p .write) (p .there)))
+    s)
     (cases-order v w)
 
 module _ (H : History) (l m : ℕ) where
@@ -51,7 +51,8 @@ module _ (H : History) (l m : ℕ) where
         earlier = r .0;
         write = b .0;
         there = eqb-true (H .op w .location) l (b .1);
-        none-later = λ v a u c d. both-ways (writes-to (H .op v) l) (r .2 v a u) (here v c d) }
+        none-later = λ v a u c d. both-ways (writes-to (H .op v) l) (r .2 v a u) (here v c d);
+      }
 
   pub latest-write-none : latest-write (H .op) l m ≡ None → (w : ℕ) → LatestWrite H l m w → ⊥
   latest-write-none e w s = both-ways (writes-to (H .op w) l) (such-none (λ k. writes-to (H .op k) l) m e w (s .earlier)) (here w (s .write) (s .there))
@@ -92,7 +93,8 @@ module _ (H : History) (b : ℕ) where
         release = t .0;
         acquire = r .0;
         source = latest-write-found H (H .op b .location) b a (s .0);
-        rule = t .1 }
+        rule = t .1;
+      }
 
   pub release-named : (a : ℕ) → Paired H a b → release-for (H .pairs) (H .op) b (H .op b) ≡ Some a
   release-named a p =
@@ -120,9 +122,9 @@ module _ (n : ℕ) (H H′ : History) (g : Agree n H H′) (e : Event) where
   pub release-agree : release-for (H .pairs) (H .op) n e ≡ release-for (H′ .pairs) (H′ .op) n e
   release-agree =
       ap (λ (o : Option ℕ). cond (acquire-kind (e .kind)) o None)
-        (if-paired-agree (latest-write (H .op) (e .location) n) (λ w is. such-found (λ k. writes-to (H .op k) (e .location)) n w is .0)
-        ∙ ap (if-paired (H′ .pairs) (H′ .op) e)
-          (such-agree (λ k. writes-to (H .op k) (e .location)) (λ k. writes-to (H′ .op k) (e .location)) n (λ k h. ap (λ (x : Event). writes-to x (e .location)) (g .ops k h))))
+      (if-paired-agree (latest-write (H .op) (e .location) n) (λ w is. such-found (λ k. writes-to (H .op k) (e .location)) n w is .0)
+      ∙ ap (if-paired (H′ .pairs) (H′ .op) e)
+      (such-agree (λ k. writes-to (H .op k) (e .location)) (λ k. writes-to (H′ .op k) (e .location)) n (λ k h. ap (λ (x : Event). writes-to x (e .location)) (g .ops k h))))
 
 -- the previous operation of a processor
 latest-such : (f : ℕ → ℕ) (p n : ℕ) → latest-of f p n ≡ last-such (λ k. eqb (f k) p) n
@@ -140,10 +142,10 @@ next-one H a c b p q =
     ⊎-elim
     (λ (e : a ≡ c). e)
     (λ (s : (a < c) ⊎ (c < a)).
-      ⊎-elim
-      (λ (u : a < c). absurd (p .none-between c u (q .later) (q .same)))
-      (λ (u : c < a). absurd (q .none-between a u (p .later) (p .same)))
-      s)
+    ⊎-elim
+    (λ (u : a < c). absurd (p .none-between c u (q .later) (q .same)))
+    (λ (u : c < a). absurd (q .none-between a u (p .later) (p .same)))
+    s)
     (cases-order a c)
 
 module _ (H : History) (b : ℕ) where
@@ -154,13 +156,14 @@ module _ (H : History) (b : ℕ) where
         later = r .0;
         inside = h;
         same = eqb-true (H .op a .processor) (H .op b .processor) (r .1);
-        none-between = λ c l u s. both-ways (eqb (H .op c .processor) (H .op b .processor)) (r .2 c l u) (eq-eqb (H .op c .processor) (H .op b .processor) s) }
+        none-between = λ c l u s. both-ways (eqb (H .op c .processor) (H .op b .processor)) (r .2 c l u) (eq-eqb (H .op c .processor) (H .op b .processor) s);
+      }
 
   pub next-none : latest-of (λ k. H .op k .processor) (H .op b .processor) b ≡ None → (a : ℕ) → Next H a b → ⊥
   next-none e a p =
       both-ways (eqb (H .op a .processor) (H .op b .processor))
-        (such-none (λ k. eqb (H .op k .processor) (H .op b .processor)) b (sym (latest-such (λ k. H .op k .processor) (H .op b .processor) b) ∙ e) a (p .later))
-        (eq-eqb (H .op a .processor) (H .op b .processor) (p .same))
+      (such-none (λ k. eqb (H .op k .processor) (H .op b .processor)) b (sym (latest-such (λ k. H .op k .processor) (H .op b .processor) b) ∙ e) a (p .later))
+      (eq-eqb (H .op a .processor) (H .op b .processor) (p .same))
 
   pub next-named : (a : ℕ) → Next H a b → latest-of (λ k. H .op k .processor) (H .op b .processor) b ≡ Some a
   next-named a p =
@@ -173,16 +176,17 @@ module _ (H : History) (b : ℕ) where
 pub races-decides : (H : History) (before : ℕ → ℕ → Bool) (a b : ℕ) → a ≢ b → Decides (before a b) (Before H a b) → Decides (before b a) (Before H b a) → Decides (races before (H .op) a b) (Race H a b)
 races-decides H before a b two to from =
     decides-like (races before (H .op) a b)
-      (λ r. record {
-        conflict = record { two = two; shared = r .0 .0 .0; one-writes = r .0 .0 .1 };
-        one-data = r .0 .1;
-        not-before = r .1 .0;
-        not-after = r .1 .1 })
-      (λ r. (((r .conflict .shared, r .conflict .one-writes), r .one-data), (r .not-before, r .not-after)))
-      (decides-and (may-race (H .op a) (H .op b)) (unordered before a b)
-        (decides-and (conflict (H .op a) (H .op b)) (data-kind (H .op a .kind) || data-kind (H .op b .kind))
-          (decides-and (eqb (H .op a .location) (H .op b .location)) (writes (H .op a .kind) || writes (H .op b .kind))
-            (decides-eqb (H .op a .location) (H .op b .location))
-            (decides-or (writes (H .op a .kind)) (writes (H .op b .kind)) (itself (writes (H .op a .kind))) (itself (writes (H .op b .kind)))))
-          (decides-or (data-kind (H .op a .kind)) (data-kind (H .op b .kind)) (itself (data-kind (H .op a .kind))) (itself (data-kind (H .op b .kind)))))
-        (decides-and (not (before a b)) (not (before b a)) (decides-not (before a b) to) (decides-not (before b a) from)))
+    (λ r. record {
+      conflict = record { two = two; shared = r .0 .0 .0; one-writes = r .0 .0 .1 };
+      one-data = r .0 .1;
+      not-before = r .1 .0;
+      not-after = r .1 .1;
+    })
+    (λ r. (((r .conflict .shared, r .conflict .one-writes), r .one-data), (r .not-before, r .not-after)))
+    (decides-and (may-race (H .op a) (H .op b)) (unordered before a b)
+    (decides-and (conflict (H .op a) (H .op b)) (data-kind (H .op a .kind) || data-kind (H .op b .kind))
+    (decides-and (eqb (H .op a .location) (H .op b .location)) (writes (H .op a .kind) || writes (H .op b .kind))
+    (decides-eqb (H .op a .location) (H .op b .location))
+    (decides-or (writes (H .op a .kind)) (writes (H .op b .kind)) (itself (writes (H .op a .kind))) (itself (writes (H .op b .kind)))))
+    (decides-or (data-kind (H .op a .kind)) (data-kind (H .op b .kind)) (itself (data-kind (H .op a .kind))) (itself (data-kind (H .op b .kind)))))
+    (decides-and (not (before a b)) (not (before b a)) (decides-not (before a b) to) (decides-not (before b a) from)))

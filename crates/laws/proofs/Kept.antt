@@ -25,9 +25,10 @@ use Rattle.laws.proofs.Finding.{release-found, release-named, release-earlier,
 
 pub empty-keeps : (H : History) (m : Meaning) → H .size ≡ 0 → held m ≡ 0 → Keeps H m
 empty-keeps H m z e = record {
-    count = e ∙ sym z;
-    processors = (λ k h. absurd (omega arith));
-    order = λ a b h k. absurd (omega arith) }
+  count = e ∙ sym z;
+  processors = (λ k h. absurd (omega arith));
+  order = λ a b h k. absurd (omega arith);
+}
 
 -- H′ is H with one operation more
 pub record Grows (H H′ : History) : Type 0 where
@@ -60,13 +61,13 @@ up-to P n below here k h = ⊎-elim (λ (l : k < n). below k l) (λ (l : n ≤ k
 -- an operation is the one that is named, or is before it
 module _ (H : History) (m : Meaning) (keeps : Keeps H m) (P : ℕ → Type 0) (a : ℕ) (h : a < H .size) where
   reaches-decides : (o : Option ℕ) → ((c : ℕ) → o ≡ Some c → P c) → ((c : ℕ) → P c → o ≡ Some c) → ((c : ℕ) → P c → c < H .size)
-    → Decides (reaches m a o) ((c : ℕ) × P c × ((a ≡ c) ⊎ Before H a c))
+      → Decides (reaches m a o) ((c : ℕ) × P c × ((a ≡ c) ⊎ Before H a c))
   reaches-decides None found named earlier = ((λ e. absurd (false≢true e)), (λ r. let n = named (r .0) (r .1) in absurd (let z : _≡_ {A = ℕ} 0 1 = cc in omega arith)))
   reaches-decides (Some g) found named earlier =
       decides-like (eqb a g || m .before a g)
-        (λ s. (g, found g refl, s))
-        (λ r. let n = named (r .0) (r .1) in subst (λ c. (a ≡ c) ⊎ Before H a c) (let e : r .0 ≡ g = cc in e) (r .2))
-        (decides-or (eqb a g) (m .before a g) (decides-eqb a g) (keeps .order a g h (earlier g (found g refl))))
+      (λ s. (g, found g refl, s))
+      (λ r. let n = named (r .0) (r .1) in subst (λ c. (a ≡ c) ⊎ Before H a c) (let e : r .0 ≡ g = cc in e) (r .2))
+      (decides-or (eqb a g) (m .before a g) (decides-eqb a g) (keeps .order a g h (earlier g (found g refl))))
 
 module _ (H H′ : History) (m : Meaning) (grows : Grows H H′) (keeps : Keeps H m) where
   abbrev new : Event
@@ -110,7 +111,7 @@ module _ (H H′ : History) (m : Meaning) (grows : Grows H H′) (keeps : Keeps 
   latest-same =
       ap (latest-of (λ k. getD (m .processors) k 0) (new .processor)) (keeps .count)
       ∙ latest-like (λ k. getD (m .processors) k 0) (λ k. H′ .op k .processor) (new .processor) n
-        (λ k h. keeps .processors k h ∙ ap (λ (o : Event). o .processor) (agree .ops k h))
+      (λ k h. keeps .processors k h ∙ ap (λ (o : Event). o .processor) (agree .ops k h))
 
   n-inside : n < H′ .size
   n-inside = let s = grows .size in omega arith
@@ -118,29 +119,33 @@ module _ (H H′ : History) (m : Meaning) (grows : Grows H H′) (keeps : Keeps 
   new-decides : (a : ℕ) → a < n → Decides (m′ .before a n) (Before H′ a n)
   new-decides a h =
       decides-at (m′ .before a n) (reaches m a (giver H new) || reaches m a (latest m (new .processor))) (grown-new a h)
-        (decides-like (reaches m a (giver H new) || reaches m a (latest m (new .processor))) to from
-          (decides-or (reaches m a (giver H new)) (reaches m a (latest m (new .processor)))
-            (reaches-decides H m keeps (λ c. Paired H′ c n) a h (giver H new)
-              (λ c e. release-found H′ n n-inside c (sym giver-same ∙ e))
-              (λ c p. giver-same ∙ release-named H′ n c p)
-              (λ c p. p .source .earlier))
-            (reaches-decides H m keeps (λ c. Next H′ c n) a h (latest m (new .processor))
-              (λ c e. next-found H′ n n-inside c (sym latest-same ∙ e))
-              (λ c p. latest-same ∙ next-named H′ n c p)
-              (λ c p. p .later))))
+      (decides-like (reaches m a (giver H new) || reaches m a (latest m (new .processor))) to from
+      (decides-or (reaches m a (giver H new)) (reaches m a (latest m (new .processor)))
+      (reaches-decides H m keeps (λ c. Paired H′ c n) a h (giver H new)
+      (λ c e. release-found H′ n n-inside c (sym giver-same ∙ e))
+      (λ c p. giver-same ∙ release-named H′ n c p)
+      (λ c p. p .source .earlier))
+      (reaches-decides H m keeps (λ c. Next H′ c n) a h (latest m (new .processor))
+      (λ c e. next-found H′ n n-inside c (sym latest-same ∙ e))
+      (λ c p. latest-same ∙ next-named H′ n c p)
+      (λ c p. p .later))))
     where
       through : (c : ℕ) → Arrow H′ c n → (a ≡ c) ⊎ Before H a c → Before H′ a n
       through c p (inl e) = subst (λ x. Before H′ x n) (sym e) (arrow p)
       through c p (inr q) = chain (before-agree n H H′ agree (forwards {H = H′} (arrow p)) (let s = n-inside in omega arith) q) (arrow p)
+
       to : ((c : ℕ) × Paired H′ c n × ((a ≡ c) ⊎ Before H a c)) ⊎ ((c : ℕ) × Next H′ c n × ((a ≡ c) ⊎ Before H a c)) → Before H′ a n
       to (inl r) = through (r .0) (inr (r .1)) (r .2)
       to (inr r) = through (r .0) (inl (r .1)) (r .2)
+
       back : (c : ℕ) → c < n → (a ≡ c) ⊎ Before H′ a c → (a ≡ c) ⊎ Before H a c
       back c l (inl e) = inl e
       back c l (inr q) = inr (before-agree n H′ H (agree-flip agree) l (omega arith) q)
+
       split : (c : ℕ) → Arrow H′ c n → (a ≡ c) ⊎ Before H′ a c → ((c : ℕ) × Paired H′ c n × ((a ≡ c) ⊎ Before H a c)) ⊎ ((c : ℕ) × Next H′ c n × ((a ≡ c) ⊎ Before H a c))
       split c (inl p) q = inr (c, p, back c (p .later) q)
       split c (inr p) q = inl (c, p, back c (p .source .earlier) q)
+
       from : Before H′ a n → ((c : ℕ) × Paired H′ c n × ((a ≡ c) ⊎ Before H a c)) ⊎ ((c : ℕ) × Next H′ c n × ((a ≡ c) ⊎ Before H a c))
       from p = let r = last-arrow p in split (r .0) (r .1) (r .2)
 
@@ -149,23 +154,25 @@ module _ (H H′ : History) (m : Meaning) (grows : Grows H H′) (keeps : Keeps 
     where
       none : (y : ℕ) → y < suc n → Decides (m′ .before n y) (Before H′ n y)
       none y l = ((λ e. absurd (false≢true (sym (grown-none y) ∙ e))), (λ p. absurd (let f = forwards p in omega arith)))
+
       old : (y : ℕ) → y < n → Decides (m′ .before a y) (Before H′ a y)
       old y l = up-to (λ x. Decides (m′ .before x y) (Before H′ x y)) n
-        (λ x u. decides-at (m′ .before x y) (m .before x y) (grown-old x y u l)
+          (λ x u. decides-at (m′ .before x y) (m .before x y) (grown-old x y u l)
           (decides-like (m .before x y)
-            (λ p. before-agree n H H′ agree l (let s = n-inside in omega arith) p)
-            (λ p. before-agree n H′ H (agree-flip agree) l (omega arith) p)
-            (keeps .order x y u l)))
-        (none y (omega arith)) a h
+          (λ p. before-agree n H H′ agree l (let s = n-inside in omega arith) p)
+          (λ p. before-agree n H′ H (agree-flip agree) l (omega arith) p)
+          (keeps .order x y u l)))
+          (none y (omega arith)) a h
+
       at-new : Decides (m′ .before a n) (Before H′ a n)
       at-new = up-to (λ x. Decides (m′ .before x n) (Before H′ x n)) n new-decides (none n (omega arith)) a h
 
   processors-grown : (k : ℕ) → k < suc n → getD (m′ .processors) k 0 ≡ H′ .op k .processor
   processors-grown = up-to (λ k. getD (m′ .processors) k 0 ≡ H′ .op k .processor) n
-    (λ k h. getD-append-left (m .processors) (new .processor ∷ []) 0 k (let e = keeps .count in omega arith)
+      (λ k h. getD-append-left (m .processors) (new .processor ∷ []) 0 k (let e = keeps .count in omega arith)
       ∙ keeps .processors k h
       ∙ ap (λ (o : Event). o .processor) (agree .ops k h))
-    (getD-push (m .processors) (new .processor) 0 n (keeps .count))
+      (getD-push (m .processors) (new .processor) 0 n (keeps .count))
 
   pub grown-keeps : Keeps H′ (grown m H (H′ .op (H .size)))
   grown-keeps =
@@ -173,4 +180,5 @@ module _ (H H′ : History) (m : Meaning) (grows : Grows H H′) (keeps : Keeps 
       record {
         count = length-push (m .processors) (new .processor) ∙ (let e = keeps .count in omega arith);
         processors = (λ k h. processors-grown k (omega arith));
-        order = λ a b h k. order-grown a b (omega arith) (omega arith) }
+        order = λ a b h k. order-grown a b (omega arith) (omega arith);
+      }

@@ -22,10 +22,11 @@ use Rattle.laws.proofs.Kept.{Grows, grown, grown-old}
 
 pub race-flip : {H : History} {a b : ℕ} → Race H a b → Race H b a
 race-flip r = record {
-    conflict = record { two = (λ e. r .conflict .two (sym e)); shared = sym (r .conflict .shared); one-writes = ⊎-elim inr inl (r .conflict .one-writes) };
-    one-data = ⊎-elim inr inl (r .one-data);
-    not-before = r .not-after;
-    not-after = r .not-before }
+  conflict = record { two = (λ e. r .conflict .two (sym e)); shared = sym (r .conflict .shared); one-writes = ⊎-elim inr inl (r .conflict .one-writes) };
+  one-data = ⊎-elim inr inl (r .one-data);
+  not-before = r .not-after;
+  not-after = r .not-before;
+}
 
 -- a run whose operations race with no earlier one is race-free
 pub free-from : (H : History) → ((b : ℕ) → b < H .size → RacesEarlier H b → ⊥) → RaceFree H
@@ -47,7 +48,8 @@ module _ (H : History) (m : Meaning) (keeps : Keeps H m) (b : ℕ) (inside : b <
       record {
         earlier = s .0;
         race = decided a (s .0) .0 (s .1);
-        none-later = λ c l u r. both-ways (races (m .before) (H .op) c b) (s .2 c l u) (decided c u .1 r) }
+        none-later = λ c l u r. both-ways (races (m .before) (H .op) c b) (s .2 c l u) (decided c u .1 r);
+      }
 
   pub partner-exact : IsPartner H b (racing-partner (m .before) (H .op) b)
   partner-exact = partner-of (racing-partner (m .before) (H .op) b) refl
@@ -61,15 +63,15 @@ module _ (before before′ : ℕ → ℕ → Bool) (op op′ : ℕ → Event) wh
   tally-agree zero orders ops = refl
   tally-agree (suc n) orders ops =
       ap₂ noted
-        (tally-agree n (λ a b h k. orders a b (omega arith) (omega arith)) (λ k h. ops k (omega arith)))
-        (such-agree (λ k. races before op k n) (λ k. races before′ op′ k n) n
-          (λ k h. races-agree k n (orders k n (omega arith) (omega arith)) (orders n k (omega arith) (omega arith)) (ops k (omega arith)) (ops n (omega arith))))
+      (tally-agree n (λ a b h k. orders a b (omega arith) (omega arith)) (λ k h. ops k (omega arith)))
+      (such-agree (λ k. races before op k n) (λ k. races before′ op′ k n) n
+      (λ k h. races-agree k n (orders k n (omega arith) (omega arith)) (orders n k (omega arith) (omega arith)) (ops k (omega arith)) (ops n (omega arith))))
 
 pub tally-grown : (H H′ : History) (m : Meaning) → Grows H H′ → Keeps H m
-  → tally-of (grown m H (H′ .op (H .size)) .before) (H′ .op) (suc (H .size)) ≡ noted (tally-of (m .before) (H .op) (H .size)) (racing-partner (grown m H (H′ .op (H .size)) .before) (H′ .op) (H .size))
+    → tally-of (grown m H (H′ .op (H .size)) .before) (H′ .op) (suc (H .size)) ≡ noted (tally-of (m .before) (H .op) (H .size)) (racing-partner (grown m H (H′ .op (H .size)) .before) (H′ .op) (H .size))
 tally-grown H H′ m grows keeps =
     ap (λ (t : Tally). noted t (racing-partner (grown m H (H′ .op (H .size)) .before) (H′ .op) (H .size)))
-      (tally-agree (grown m H (H′ .op (H .size)) .before) (m .before) (H′ .op) (H .op) (H .size) (grown-old H H′ m grows keeps) (grows .same))
+    (tally-agree (grown m H (H′ .op (H .size)) .before) (m .before) (H′ .op) (H .op) (H .size) (grown-old H H′ m grows keeps) (grows .same))
 
 -- whatever the order: how many were admitted, and a first pair is shown just when some operation has a partner
 noted-admitted : (t : Tally) (o : Option ℕ) → noted t o .admitted ≡ suc (t .admitted)
@@ -140,10 +142,10 @@ module _ (H : History) (m : Meaning) (keeps : Keeps H m) where
   shows-up-to zero h = λ d l r. absurd (omega arith)
   shows-up-to (suc k) h =
       noted-shows H k (tally-of (m .before) (H .op) k) (racing-partner (m .before) (H .op) k)
-        (tally-admitted (m .before) (H .op) k)
-        (tally-tied (m .before) (H .op) k)
-        (partner-exact H m keeps k (omega arith))
-        (shows-up-to k (omega arith))
+      (tally-admitted (m .before) (H .op) k)
+      (tally-tied (m .before) (H .op) k)
+      (partner-exact H m keeps k (omega arith))
+      (shows-up-to k (omega arith))
 
   counts-up-to : (k : ℕ) → k ≤ H .size → Counts (RacesEarlier H) k (tally-of (m .before) (H .op) k .racing)
   counts-up-to zero h = none

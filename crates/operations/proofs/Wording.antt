@@ -26,9 +26,10 @@ pub word-decides : (xs ys : List ℤ) → Decides (same-word xs ys) (xs ≡ ys)
 word-decides [] [] = ((λ e. refl), (λ e. refl))
 word-decides [] (y ∷ ys) = ((λ e. absurd (false≢true e)), (λ e. absurd (let z : _≡_ {A = ℕ} 0 1 = cc in omega arith)))
 word-decides (x ∷ xs) [] = ((λ e. absurd (false≢true e)), (λ e. absurd (let z : _≡_ {A = ℕ} 0 1 = cc in omega arith)))
-word-decides (x ∷ xs) (y ∷ ys) =
-    ((λ e. let p = and-parts (same-number x y) (same-word xs ys) e in ap₂ (λ a as′. a ∷ as′) (number-decides x y .0 (p .0)) (word-decides xs ys .0 (p .1))),
-      (λ e. and-from (same-number x y) (same-word xs ys) (number-decides x y .1 (cc)) (word-decides xs ys .1 (cc))))
+word-decides (x ∷ xs) (y ∷ ys) = (
+  (λ e. let p = and-parts (same-number x y) (same-word xs ys) e in ap₂ (λ a as′. a ∷ as′) (number-decides x y .0 (p .0)) (word-decides xs ys .0 (p .1))),
+  (λ e. and-from (same-number x y) (same-word xs ys) (number-decides x y .1 (cc)) (word-decides xs ys .1 (cc))),
+)
 
 -- a read's word, once its source is known
 pub read-fits : (start : List ℤ) (op : ℕ → Event) (n : ℕ) (e : Event) (o : Option ℕ) (w : List ℤ) (r : Bool) → reads (e .kind) ≡ true → latest-write op (e .location) n ≡ o → word-from start op o ≡ w → Decides r (e .word ≡ w) → r ≡ fits-source start op n e

@@ -76,7 +76,9 @@ pub impl Word for Count as CountWord {
         let [a, b, c, d] = bytes else {
             return None;
         };
-        Some(Count { number: u32::from_be_bytes([*a, *b, *c, *d]) })
+        Some(Count {
+            number: u32::from_be_bytes([*a, *b, *c, *d]),
+        })
     }
 
     fn same(&self, other: &Count) -> bool {

@@ -37,20 +37,21 @@ run-more G E (d ∷ cs) c = run-more G (after G E d) cs c
 
 reached-more : (G : Setting) (E : Exam) (c : Call) → Reached G E → Reached G (after G E c)
 reached-more G E c r = record {
-    start = r .start;
-    calls = r .calls ++ (c ∷ []);
-    opened = r .opened;
-    leads = run-more G (r .start) (r .calls) c ∙ ap (λ x. after G x c) (r .leads) }
+  start = r .start;
+  calls = r .calls ++ (c ∷ []);
+  opened = r .opened;
+  leads = run-more G (r .start) (r .calls) c ∙ ap (λ x. after G x c) (r .leads);
+}
 
 module _ {W : Type 0} (value : W → List ℤ) (G : Setting) where
   with-reached : (s : Reading W) (o : Operation W) (a : Admitted) → admission G (exam-of value s) (event value o) ≡ Ok a → Reached G (exam-of value s) → Reached G (exam-of value (with-operation value G s o))
   with-reached s o a is r = ⊎-elim
-    (λ (t : Taken G (exam-of value s) (event value o)).
+      (λ (t : Taken G (exam-of value s) (event value o)).
       let step : after-admission G (exam-of value s) (event value o) ≡ exam-of value (with-operation value G s o) =
-        t .after ∙ ap (λ es. record { events = es; keeper = fuller G (exam-of value s) (event value o); numbers = noted (s .numbers) (partner-of G (exam-of value s) (event value o)) }) (sym (map-set (event value) (s .log) (s .numbers .admitted) o)) in
+      t .after ∙ ap (λ es. record { events = es; keeper = fuller G (exam-of value s) (event value o); numbers = noted (s .numbers) (partner-of G (exam-of value s) (event value o)) }) (sym (map-set (event value) (s .log) (s .numbers .admitted) o)) in
       subst (Reached G) step (reached-more G (exam-of value s) (admit (event value o)) r))
-    (λ (t : Refused G (exam-of value s) (event value o)). absurd (let q = sym is ∙ t .answer in let z : _≡_ {A = ℕ} 0 1 = cc in omega arith))
-    (cases-admission G (exam-of value s) (event value o))
+      (λ (t : Refused G (exam-of value s) (event value o)). absurd (let q = sym is ∙ t .answer in let z : _≡_ {A = ℕ} 0 1 = cc in omega arith))
+      (cases-admission G (exam-of value s) (event value o))
 
   pub read-reached : (s : Reading W) (items : List (Item W)) → Reached G (exam-of value s) → Reached G (exam-of value (read value G s items .left))
   read-reached s [] r = r
@@ -58,8 +59,8 @@ module _ {W : Type 0} (value : W → List ℤ) (G : Setting) where
   read-reached s (operation at o ∷ items) r = go (admission G (exam-of value s) (event value o)) refl (λ q. read-reached (with-operation value G s o) items q)
     where
       go : (x : Result Admitted ExamFault) → admission G (exam-of value s) (event value o) ≡ x
-        → (Reached G (exam-of value (with-operation value G s o)) → Reached G (exam-of value (read value G (with-operation value G s o) items .left)))
-        → Reached G (exam-of value (if-admitted x at s (read value G (with-operation value G s o) items) .left))
+          → (Reached G (exam-of value (with-operation value G s o)) → Reached G (exam-of value (read value G (with-operation value G s o) items .left)))
+          → Reached G (exam-of value (if-admitted x at s (read value G (with-operation value G s o) items) .left))
       go (Ok a) is rest = rest (with-reached s o a is r)
       go (Err f) is rest = r
 
@@ -75,8 +76,9 @@ module _ {W : Type 0} (value : W → List ℤ) (G : Setting) where
     where
       go : (b : Bool) → eqb (held m) 0 ≡ b → _≡_ {A = Result Tally ExamFault} (Ok (tally o)) (cond b (Ok no-operation) (Err CountDiffers)) → Reached G (exam-of value (reading log m o partners))
       go true is e = record {
-          start = exam-of value (reading log m o partners);
-          calls = [];
-          opened = record { empty = eqb-true (held m) 0 is; numbers = (cc) };
-          leads = refl }
+        start = exam-of value (reading log m o partners);
+        calls = [];
+        opened = record { empty = eqb-true (held m) 0 is; numbers = (cc) };
+        leads = refl;
+      }
       go false is e = absurd (let z : _≡_ {A = ℕ} 0 1 = cc in omega arith)

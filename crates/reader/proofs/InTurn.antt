@@ -38,8 +38,8 @@ module _ {W : Type 0} (value : W → List ℤ) (G : Setting) where
   read-through s s′ (operation at o ∷ xs) ys e = go (admission G (exam-of value s) (event value o)) e (λ d. read-through (with-operation value G s o) s′ xs ys d)
     where
       go : (r : Result Admitted ExamFault) → ended (Ok tt) s′ ≡ if-admitted r at s (read value G (with-operation value G s o) xs)
-        → (ended (Ok tt) s′ ≡ read value G (with-operation value G s o) xs → read value G (with-operation value G s o) (xs ++ ys) ≡ read value G s′ ys)
-        → if-admitted r at s (read value G (with-operation value G s o) (xs ++ ys)) ≡ read value G s′ ys
+          → (ended (Ok tt) s′ ≡ read value G (with-operation value G s o) xs → read value G (with-operation value G s o) (xs ++ ys) ≡ read value G s′ ys)
+          → if-admitted r at s (read value G (with-operation value G s o) (xs ++ ys)) ≡ read value G s′ ys
       go (Ok a) d rest = rest d
       go (Err f) d rest = absurd (let q : _≡_ {A = Result (Unit {0}) FileFault} (Ok tt) (Err (Record (record { offset = at; fault = f }))) = ap (λ x. x .result) d in let z : _≡_ {A = ℕ} 0 1 = cc in omega arith)
 
@@ -49,8 +49,8 @@ module _ {W : Type 0} (value : W → List ℤ) (G : Setting) where
   read-stopped s s′ f (operation at o ∷ xs) ys e = go (admission G (exam-of value s) (event value o)) e (λ d. read-stopped (with-operation value G s o) s′ f xs ys d)
     where
       go : (r : Result Admitted ExamFault) → ended (Err f) s′ ≡ if-admitted r at s (read value G (with-operation value G s o) xs)
-        → (ended (Err f) s′ ≡ read value G (with-operation value G s o) xs → ended (Err f) s′ ≡ read value G (with-operation value G s o) (xs ++ ys))
-        → ended (Err f) s′ ≡ if-admitted r at s (read value G (with-operation value G s o) (xs ++ ys))
+          → (ended (Err f) s′ ≡ read value G (with-operation value G s o) xs → ended (Err f) s′ ≡ read value G (with-operation value G s o) (xs ++ ys))
+          → ended (Err f) s′ ≡ if-admitted r at s (read value G (with-operation value G s o) (xs ++ ys))
       go (Ok a) d rest = rest d
       go (Err g) d rest = d
 
@@ -60,8 +60,8 @@ module _ {W : Type 0} (value : W → List ℤ) (G : Setting) where
     s = reading log m o partners
 
     pub one-refused : (f : ExamFault) → Err f ≡ admission G (exam value log m o) (event value op) → (log′ : List (Operation W)) (m′ : Meaning) (o′ : Open)
-      → exam value log′ m′ o′ ≡ after-admission G (exam value log m o) (event value op) → log′ ≡ recorded log (o .admitted) op (Err f)
-      → ended (Err (Record (record { offset = at; fault = f }))) (reading log′ m′ o′ partners) ≡ read value G s (operation at op ∷ [])
+        → exam value log′ m′ o′ ≡ after-admission G (exam value log m o) (event value op) → log′ ≡ recorded log (o .admitted) op (Err f)
+        → ended (Err (Record (record { offset = at; fault = f }))) (reading log′ m′ o′ partners) ≡ read value G s (operation at op ∷ [])
     one-refused f is log′ m′ o′ after written =
         let same : exam value log′ m′ o′ ≡ exam value log m o = after ∙ ap (grown G (exam value log m o) (event value op)) (sym is) in
         let left : reading log′ m′ o′ partners ≡ s = λ i. record { log = written i; keeper = same i .keeper; numbers = same i .numbers; partners = partners } in
@@ -69,19 +69,19 @@ module _ {W : Type 0} (value : W → List ℤ) (G : Setting) where
         ∙ ap (λ r. if-admitted r at s (read value G (with-operation value G s op) [])) is
 
     pub one-admitted : (a : Admitted) → Ok a ≡ admission G (exam value log m o) (event value op) → (log′ : List (Operation W)) (m′ : Meaning) (o′ : Open)
-      → exam value log′ m′ o′ ≡ after-admission G (exam value log m o) (event value op) → log′ ≡ recorded log (o .admitted) op (Ok a)
-      → (partners′ : List (Option ℕ)) → partners′ ≡ set partners (a .number) (a .partner)
-      → ended (Ok tt) (reading log′ m′ o′ partners′) ≡ read value G s (operation at op ∷ [])
+        → exam value log′ m′ o′ ≡ after-admission G (exam value log m o) (event value op) → log′ ≡ recorded log (o .admitted) op (Ok a)
+        → (partners′ : List (Option ℕ)) → partners′ ≡ set partners (a .number) (a .partner)
+        → ended (Ok tt) (reading log′ m′ o′ partners′) ≡ read value G s (operation at op ∷ [])
     one-admitted a is log′ m′ o′ after written partners′ noted-is = ⊎-elim
-      (λ (t : Taken G E e).
+        (λ (t : Taken G E e).
         let same : a ≡ record { number = o .admitted; partner = partner-of G E e } = let q = is ∙ t .answer in cc in
         let next : exam value log′ m′ o′ ≡ next-exam G E e = after ∙ t .after in
         let list : partners′ ≡ set partners (o .admitted) (partner-of G E e) = noted-is ∙ ap (λ x. set partners (x .number) (x .partner)) same in
         let left : reading log′ m′ o′ partners′ ≡ with-operation value G s op = λ i. record { log = written i; keeper = next i .keeper; numbers = next i .numbers; partners = list i } in
         ap (ended (Ok tt)) left
         ∙ ap (λ r. if-admitted r at s (read value G (with-operation value G s op) [])) is)
-      (λ (t : Refused G E e). absurd (let q = is ∙ t .answer in let z : _≡_ {A = ℕ} 0 1 = cc in omega arith))
-      (cases-admission G E e)
+        (λ (t : Refused G E e). absurd (let q = is ∙ t .answer in let z : _≡_ {A = ℕ} 0 1 = cc in omega arith))
+        (cases-admission G E e)
       where
         E : Exam
         E = exam value log m o
@@ -117,9 +117,9 @@ module _ {W : Type 0} (value : W → List ℤ) (G : Setting) (decoded : List ℕ
   record-stops f is = sym (ap (read value G s) (items-are ∙ ap (λ r. and-then at r (rest-items decoded size p (drop (record-size size) bs) (at + record-size size))) (sym is)))
 
   pub record-passes : (o : Operation W) → Ok o ≡ record-of decoded size p ys at → (zs : List ℕ) → zs ≡ drop k bs
-    → read value G s (operation at o ∷ rest-items decoded size p zs (at + k)) ≡ read value G s (rest-items decoded size p bs at)
+      → read value G s (operation at o ∷ rest-items decoded size p zs (at + k)) ≡ read value G s (rest-items decoded size p bs at)
   record-passes o is zs zs-is =
       let rest-is : rest-items decoded size p zs (at + k) ≡ rest-items decoded size p (drop (record-size size) bs) (at + record-size size) =
-        ap (λ l. rest-items decoded size p l (at + k)) (zs-is ∙ ap (λ j. drop j bs) k-is) ∙ ap (λ j. rest-items decoded size p (drop (record-size size) bs) (at + j)) k-is in
+      ap (λ l. rest-items decoded size p l (at + k)) (zs-is ∙ ap (λ j. drop j bs) k-is) ∙ ap (λ j. rest-items decoded size p (drop (record-size size) bs) (at + j)) k-is in
       ap (λ items. read value G s (operation at o ∷ items)) rest-is
       ∙ sym (ap (read value G s) (items-are ∙ ap (λ r. and-then at r (rest-items decoded size p (drop (record-size size) bs) (at + record-size size))) (sym is)))

@@ -14,7 +14,6 @@ use record_file::Section;
 use record_file::read_record;
 use record_file::record_bytes;
 use record_file::records_of;
-
 ghost use lib.ListN.{length, set};
 ghost use mathlib.Core.List.{[], _∷_};
 ghost use mathlib.Core.Path.{_≡_};
@@ -91,7 +90,15 @@ fn admit_section<W: Word, K: Keeper, R: PairingRule>(
     ensures { λ r. ⌜ ended r (reading (now (log .exit)) (K·Keeper .meaning (now (keeper .exit))) (now (exam .exit)) (now (partners .exit))) ≡ read (W·Word .value) (setting (R·PairingRule .pairs (now (rule .entry))) (W·Word .start)) (reading (now (log .entry)) (K·Keeper .meaning (now (keeper .entry))) (now (exam .entry)) (now (partners .entry))) (section-items (W·Word .decoded) (W·Word .size) (now (section .entry .bytes)) (section .entry .offset)) ⌝ }
 {
     let records = records_of::<W>(section)?;
-    admit_records(records, section.offset + 1, exam, log, keeper, rule, partners)
+    admit_records(
+        records,
+        section.offset + 1,
+        exam,
+        log,
+        keeper,
+        rule,
+        partners,
+    )
 }
 
 // Admits the operations of a record file in turn, once its whole directory is checked. What was admitted before

@@ -9,7 +9,6 @@ use record_file::AtOffset;
 use record_file::FileFault;
 use record_file::FileFromPlaced;
 use record_file::ResultAtOffset;
-
 ghost use mathlib.Core.Path.{_≡_};
 ghost use Rattle.examination.specs.Admission.{setting};
 ghost use Rattle.record_file.specs.Records.{file-items};

@@ -30,7 +30,8 @@ returns-then-unordered g c =
     let apart : unordered (m .before) (k - 1) n ≡ true = ap (λ (z : Meaning). unordered (z .before) (k - 1) n) (sym (c .loop-k .inv .0)) ∙ sym (c .if-unordered .ensures tt .value) in
     record {
       value = sym (c .loop-k .inv .1 ∙ such-hit (λ j. races (m .before) op j n) k (c .loop-k-test .taken) (and-from (may-race (op (k - 1)) (op n)) (unordered (m .before) (k - 1) n) clash apart));
-      same = c .unordered .ensures .same ∙ c .loop-k .inv .0 }
+      same = c .unordered .ensures .same ∙ c .loop-k .inv .0;
+    }
 
 pub loop-k-again : need.loop-k-again
 loop-k-again g c =
@@ -44,12 +45,14 @@ loop-k-again g c =
     let x = at-events v xs (k - 1) (c .index-log-k .result) below (c .index-log-k .is) in
     let y = at-events v xs n (c .index-log-n .result) (c .pre .recorded) (c .index-log-n .is) in
     elim (c .else-may-race .came) [
-      else-may-race·by·then-may-race·else-unordered w ↦
-        let apart : unordered (m .before) (k - 1) n ≡ false = ap (λ (z : Meaning). unordered (z .before) (k - 1) n) (sym (c .loop-k .inv .0)) ∙ sym (w .unordered .ensures .value) ∙ w .if-unordered .left in
-        (ap (g .K·Keeper .meaning) (w .keeper-is) ∙ w .unordered .ensures .same ∙ c .loop-k .inv .0,
-          c .loop-k .inv .1 ∙ such-miss (λ j. races (m .before) op j n) k (c .loop-k-test .taken) (and-right (may-race (op (k - 1)) (op n)) (unordered (m .before) (k - 1) n) apart))
-    | else-may-race·by·else-may-race w ↦
-        let clash : may-race (op (k - 1)) (op n) ≡ false = compared op (k - 1) n _ _ x y ∙ sym (c .may-race .ensures) ∙ w .if-may-race .left in
-        (ap (g .K·Keeper .meaning) (w .keeper-is) ∙ c .loop-k .inv .0,
-          c .loop-k .inv .1 ∙ such-miss (λ j. races (m .before) op j n) k (c .loop-k-test .taken) (and-left (may-race (op (k - 1)) (op n)) (unordered (m .before) (k - 1) n) clash))
+      | else-may-race·by·then-may-race·else-unordered w ↦
+          let apart : unordered (m .before) (k - 1) n ≡ false = ap (λ (z : Meaning). unordered (z .before) (k - 1) n) (sym (c .loop-k .inv .0)) ∙ sym (w .unordered .ensures .value) ∙ w .if-unordered .left in (
+            ap (g .K·Keeper .meaning) (w .keeper-is) ∙ w .unordered .ensures .same ∙ c .loop-k .inv .0,
+            c .loop-k .inv .1 ∙ such-miss (λ j. races (m .before) op j n) k (c .loop-k-test .taken) (and-right (may-race (op (k - 1)) (op n)) (unordered (m .before) (k - 1) n) apart),
+          )
+      | else-may-race·by·else-may-race w ↦
+          let clash : may-race (op (k - 1)) (op n) ≡ false = compared op (k - 1) n _ _ x y ∙ sym (c .may-race .ensures) ∙ w .if-may-race .left in (
+            ap (g .K·Keeper .meaning) (w .keeper-is) ∙ c .loop-k .inv .0,
+            c .loop-k .inv .1 ∙ such-miss (λ j. races (m .before) op j n) k (c .loop-k-test .taken) (and-left (may-race (op (k - 1)) (op n)) (unordered (m .before) (k - 1) n) clash),
+          )
     ]

@@ -17,8 +17,8 @@ loop-x-again c =
     let q = c .args .p in
     let e : times q (drop i xs) ≡ cond (eqb (getD xs i 0) q) 1 0 + times q (drop (i + 1) xs) = at-drop-more (times q) xs i 0 (c .loop-x-test .taken) in
     elim (c .if-x-p .came) [
-      then-x-p w ↦ let t : _≡_ {A = ℕ} (cond (eqb (getD xs i 0) q) 1 0) 1 = ap (λ b. cond b 1 0) (eq-eqb _ _ (w .if-x-p .taken)) in (omega (arith, w .n-is), omega (arith, w .n-is, c .loop-x .inv .1))
-    | else-x-p w ↦ let t : _≡_ {A = ℕ} (cond (eqb (getD xs i 0) q) 1 0) 0 = ap (λ b. cond b 1 0) (ne-eqb _ _ (w .if-x-p .left)) in (omega (arith, w .n-is), omega (arith, w .n-is, c .loop-x .inv .1))
+      | then-x-p w ↦ let t : _≡_ {A = ℕ} (cond (eqb (getD xs i 0) q) 1 0) 1 = ap (λ b. cond b 1 0) (eq-eqb _ _ (w .if-x-p .taken)) in (omega (arith, w .n-is), omega (arith, w .n-is, c .loop-x .inv .1))
+      | else-x-p w ↦ let t : _≡_ {A = ℕ} (cond (eqb (getD xs i 0) q) 1 0) 0 = ap (λ b. cond b 1 0) (ne-eqb _ _ (w .if-x-p .left)) in (omega (arith, w .n-is), omega (arith, w .n-is, c .loop-x .inv .1))
     ]
 
 pub returns : need.returns

@@ -47,9 +47,9 @@ returns-in-Break-admit-section g c =
     let p = err-from-errBy (c .from-residual-in-Break-admit-section .result) (c .from-residual-in-Break-admit-section .ensures .1) in
     let items = section-items (g .W·Word .decoded) (g .W·Word .size) (section-bytes file (l .i)) (section-start file (l .i)) in
     let is : ended (Err f) after ≡ read v G s items =
-      c .in-Break-admit-section .ensures tt
-      ∙ ap (λ bs. read v G s (section-items (g .W·Word .decoded) (g .W·Word .size) bs (c .in-Some .section .offset))) (found .2 ∙ ap (λ x. section-bytes x (l .i)) same)
-      ∙ ap (λ k. read v G s (section-items (g .W·Word .decoded) (g .W·Word .size) (section-bytes file (l .i)) k)) (found .1 ∙ ap (λ x. section-start x (l .i)) same) in
+    c .in-Break-admit-section .ensures tt
+    ∙ ap (λ bs. read v G s (section-items (g .W·Word .decoded) (g .W·Word .size) bs (c .in-Some .section .offset))) (found .2 ∙ ap (λ x. section-bytes x (l .i)) same)
+    ∙ ap (λ k. read v G s (section-items (g .W·Word .decoded) (g .W·Word .size) (section-bytes file (l .i)) k)) (found .1 ∙ ap (λ x. section-start x (l .i)) same) in
     ap (λ r. ended r after) (p .1 ∙ ap Err (p .2))
     ∙ read-stopped v G s after f items (sections-items (g .W·Word .decoded) (g .W·Word .size) file (l .i + 1) (h .sections - (l .i + 1))) is
     ∙ sym (ap (read v G s) (sections-more (g .W·Word .decoded) (g .W·Word .size) file (h .sections) (l .i) (found .0)))
@@ -69,9 +69,9 @@ loop-i-again g c =
     let after = reading (c .admit-section .last .log) (g .K·Keeper .meaning (c .admit-section .last .keeper)) (c .admit-section .last .exam) (c .admit-section .last .partners) in
     let items = section-items (g .W·Word .decoded) (g .W·Word .size) (section-bytes file (l .i)) (section-start file (l .i)) in
     let is : ended (Ok tt) after ≡ read v G s items =
-      c .in-Continue-admit-section .ensures tt
-      ∙ ap (λ bs. read v G s (section-items (g .W·Word .decoded) (g .W·Word .size) bs (c .in-Some .section .offset))) (found .2 ∙ ap (λ x. section-bytes x (l .i)) same)
-      ∙ ap (λ k. read v G s (section-items (g .W·Word .decoded) (g .W·Word .size) (section-bytes file (l .i)) k)) (found .1 ∙ ap (λ x. section-start x (l .i)) same) in
+    c .in-Continue-admit-section .ensures tt
+    ∙ ap (λ bs. read v G s (section-items (g .W·Word .decoded) (g .W·Word .size) bs (c .in-Some .section .offset))) (found .2 ∙ ap (λ x. section-bytes x (l .i)) same)
+    ∙ ap (λ k. read v G s (section-items (g .W·Word .decoded) (g .W·Word .size) (section-bytes file (l .i)) k)) (found .1 ∙ ap (λ x. section-start x (l .i)) same) in
     sym (read-through v G s after items (sections-items (g .W·Word .decoded) (g .W·Word .size) file (l .i + 1) (h .sections - (l .i + 1))) is)
     ∙ sym (ap (read v G s) (sections-more (g .W·Word .decoded) (g .W·Word .size) file (h .sections) (l .i) (found .0)))
     ∙ l .inv

@@ -19,7 +19,7 @@ returns-in-Break-admitted g c =
     let after = reading (c .admit .last .log) (g .K·Keeper .meaning (c .admit .last .keeper)) (c .admit .last .self) (c .args .partners .now) in
     ap (λ r. ended r after) (p .1 ∙ ap Err (p .2 ∙ ap Record (f .1)))
     ∙ one-refused (g .W·Word .value) G (c .args .log .now) (g .K·Keeper .meaning (c .args .keeper .now)) (c .args .exam .now) (c .args .partners .now) (c .args .operation) at (placed .fault) (sym (f .0) ∙ c .admit .ensures .answer) (c .admit .last .log) (g .K·Keeper .meaning (c .admit .last .keeper)) (c .admit .last .self) (c .admit .ensures .after)
-      (c .admit .ensures .written ∙ ap (recorded (c .args .log .now) (c .args .exam .now .admitted) (c .args .operation)) (f .0))
+    (c .admit .ensures .written ∙ ap (recorded (c .args .log .now) (c .args .exam .now .admitted) (c .args .operation)) (f .0))
 
 pub returns : need.returns
 returns g c =
@@ -28,4 +28,4 @@ returns g c =
     let a = c .in-Continue-admitted .admitted in
     let is = placed-answer (c .admit .result) at a (c .in-Continue-admitted .ensures tt) in
     one-admitted (g .W·Word .value) G (c .args .log .now) (g .K·Keeper .meaning (c .args .keeper .now)) (c .args .exam .now) (c .args .partners .now) (c .args .operation) at a (sym is ∙ c .admit .ensures .answer) (c .admit .last .log) (g .K·Keeper .meaning (c .admit .last .keeper)) (c .admit .last .self) (c .admit .ensures .after)
-      (c .admit .ensures .written ∙ ap (recorded (c .args .log .now) (c .args .exam .now .admitted) (c .args .operation)) is) (c .note .last .partners) (c .note .ensures)
+    (c .admit .ensures .written ∙ ap (recorded (c .args .log .now) (c .args .exam .now .admitted) (c .args .operation)) is) (c .note .last .partners) (c .note .ensures)

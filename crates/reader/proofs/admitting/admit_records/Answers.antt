@@ -49,11 +49,12 @@ loop-rest-again g c =
     let after = reading (c .admit-operation .last .log) (g .K·Keeper .meaning (c .admit-operation .last .keeper)) (c .admit-operation .last .exam) (c .admit-operation .last .partners) in
     let k = c .record-bytes-size .result in
     let o = c .in-Continue-operation .operation in
-    let zs = c .split-at .result .1 .now in
-    (omega (arith, ap length (c .split-at .ensures .back), length-drop k (l .rest .now), l .inv .0, c .loop-rest-test .taken),
+    let zs = c .split-at .result .1 .now in (
+      omega (arith, ap length (c .split-at .ensures .back), length-drop k (l .rest .now), l .inv .0, c .loop-rest-test .taken),
       sym (read-through v G s after (operation (l .at) o ∷ []) (rest-items (g .W·Word .decoded) (g .W·Word .size) (c .args .records .processor) zs (l .at + k)) (c .in-Continue-admit-operation .ensures tt))
-      ∙ record-passes v G (g .W·Word .decoded) (g .W·Word .size) (c .args .records .processor) (l .rest .now) (l .at) k (c .record-bytes-size .ensures) (c .loop-rest-test .taken) (c .split-at .result .0 .now) (c .split-at .ensures .front) s o (c .in-Continue-operation .ensures tt) zs (c .split-at .ensures .back)
-      ∙ l .inv .1)
+          ∙ record-passes v G (g .W·Word .decoded) (g .W·Word .size) (c .args .records .processor) (l .rest .now) (l .at) k (c .record-bytes-size .ensures) (c .loop-rest-test .taken) (c .split-at .result .0 .now) (c .split-at .ensures .front) s o (c .in-Continue-operation .ensures tt) zs (c .split-at .ensures .back)
+          ∙ l .inv .1,
+    )
 
 pub returns : need.returns
 returns g c =

@@ -11,7 +11,7 @@ abbrev pub Inv-loop-rest : given.InvT-loop-rest
 Inv-loop-rest g l =
     (l .at + length (l .rest) < 2 ^ 64)
     × (read (g .W·Word .value) (setting (g .R·PairingRule .pairs (l .rule)) (g .W·Word .start)) (reading (l .log) (g .K·Keeper .meaning (l .keeper)) (l .exam) (l .partners)) (rest-items (g .W·Word .decoded) (g .W·Word .size) (l .processor) (l .rest) (l .at))
-      ≡ read (g .W·Word .value) (setting (g .R·PairingRule .pairs (l .rule)) (g .W·Word .start)) (reading (l .entry .log) (g .K·Keeper .meaning (l .entry .keeper)) (l .entry .exam) (l .entry .partners)) (rest-items (g .W·Word .decoded) (g .W·Word .size) (l .processor) (l .entry .rest) (l .entry .at)))
+    ≡ read (g .W·Word .value) (setting (g .R·PairingRule .pairs (l .rule)) (g .W·Word .start)) (reading (l .entry .log) (g .K·Keeper .meaning (l .entry .keeper)) (l .entry .exam) (l .entry .partners)) (rest-items (g .W·Word .decoded) (g .W·Word .size) (l .processor) (l .entry .rest) (l .entry .at)))
 
 abbrev pub μ-loop-rest : given.MeasureT-loop-rest
 μ-loop-rest g l = length (l .rest)

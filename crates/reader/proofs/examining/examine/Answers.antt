@@ -26,7 +26,8 @@ returns g c =
     let arrived : Reached G (exam-of v after) = subst (λ e. Reached G (exam-of v (e .left))) (sym reads) (read-reached v G s items (newly-opened v G (c .args .log .now) m o (c .args .partners .now) opens)) in
     record {
       outcome =
-        ap (λ x. record { answer = Ok x; log = c .admit-file .last .log; keeper = g .K·Keeper .meaning (c .admit-file .last .keeper); partners = c .admit-file .last .partners }) (c .close .ensures .verdict)
-        ∙ ap closed reads
-        ∙ ap (started v G (c .args .log .now) m (c .args .partners .now) items) opens;
-      exact = told v G after _ arrived (c .close .ensures .exact) }
+          ap (λ x. record { answer = Ok x; log = c .admit-file .last .log; keeper = g .K·Keeper .meaning (c .admit-file .last .keeper); partners = c .admit-file .last .partners }) (c .close .ensures .verdict)
+          ∙ ap closed reads
+          ∙ ap (started v G (c .args .log .now) m (c .args .partners .now) items) opens;
+      exact = told v G after _ arrived (c .close .ensures .exact);
+    }

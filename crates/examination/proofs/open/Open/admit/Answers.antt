@@ -26,7 +26,8 @@ returns-in-Break-check g c =
       answer = p .1 ∙ sym no;
       after = sym (refused-by G E e (p .0) no .after);
       written = ap (recorded xs (o .admitted) (c .args .operation)) (sym (p .1));
-      exact = admission-exact G E e (c .from-residual .result) (p .1 ∙ sym no) }
+      exact = admission-exact G E e (c .from-residual .result) (p .1 ∙ sym no);
+    }
 
 pub giver-giver-requires : need.giver-giver-requires
 giver-giver-requires g c κs =
@@ -52,7 +53,8 @@ returns-in-Break-number g c =
       answer = is;
       after = ap (λ k. exam v xs k o) (c .in-Break-number .ensures tt .after ∙ ap (answered m (op .processor) (c .giver-giver .result)) (sym (c .in-Break-number .ensures tt .answer))) ∙ sym (refused-by G E e (Keeper f) no .after);
       written = ap (recorded xs (o .admitted) op) (sym (p .1));
-      exact = admission-exact G E e (c .from-residual-in-Break-number .result) is }
+      exact = admission-exact G E e (c .from-residual-in-Break-number .result) is;
+    }
 
 pub put-requires : need.put-requires
 put-requires g c κs =
@@ -70,7 +72,8 @@ partner-of-partner-requires g c κs =
     let place = number-placed v G (c .args .log .now) m (c .args .self .now) (c .args .operation) ok (c .giver-giver .result) (c .giver-giver .ensures) k add in
     record {
       recorded = omega (arith, ap length (c .put .ensures), length-set (c .args .log .now) k (c .args .operation));
-      kept = number-held v G (c .args .log .now) m (c .args .self .now) (c .args .operation) ok (c .giver-giver .result) (c .giver-giver .ensures) k add (g .K·Keeper .meaning (c .add .last .self)) (c .in-Continue-number .ensures tt .after) }
+      kept = number-held v G (c .args .log .now) m (c .args .self .now) (c .args .operation) ok (c .giver-giver .result) (c .giver-giver .ensures) k add (g .K·Keeper .meaning (c .add .last .self)) (c .in-Continue-number .ensures tt .after);
+    }
 
 pub note-requires : need.note-requires
 note-requires g c κs =
@@ -98,4 +101,5 @@ returns g c =
       answer = d .answer;
       after = d .after;
       written = d .written;
-      exact = admission-exact G (exam v xs m o) (event v op) _ (d .answer) }
+      exact = admission-exact G (exam v xs m o) (event v op) _ (d .answer);
+    }

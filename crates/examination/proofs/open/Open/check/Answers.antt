@@ -33,7 +33,7 @@ returns-then-not-word-fits g c =
     let n = c .args .self .now .admitted in
     let h : n ≤ length xs = omega (arith, c .if-n-log .left) in
     sym (wrong (g .W·Word .start) (exam v xs (g .K·Keeper .meaning (c .args .keeper .now)) (c .args .self .now)) (event v (c .args .next .now)) (omega (arith, length-map xs (event v), c .if-n-log .left)) (sym (c .count .ensures) ∙ c .if-count-self .left) (omega (arith, c .if-next-gt15 .left))
-      (sym (fits-prefix v xs (n - 0) n (omega arith) h (g .W·Word .start) (event v (c .args .next .now))) ∙ sym (c .if-not-word-fits .ensures tt)))
+    (sym (fits-prefix v xs (n - 0) n (omega arith) h (g .W·Word .start) (event v (c .args .next .now))) ∙ sym (c .if-not-word-fits .ensures tt)))
 
 pub returns : need.returns
 returns g c =
@@ -42,4 +42,4 @@ returns g c =
     let n = c .args .self .now .admitted in
     let h : n ≤ length xs = omega (arith, c .if-n-log .left) in
     sym (pass (g .W·Word .start) (exam v xs (g .K·Keeper .meaning (c .args .keeper .now)) (c .args .self .now)) (event v (c .args .next .now)) (omega (arith, length-map xs (event v), c .if-n-log .left)) (sym (c .count .ensures) ∙ c .if-count-self .left) (omega (arith, c .if-next-gt15 .left))
-      (sym (fits-prefix v xs (n - 0) n (omega arith) h (g .W·Word .start) (event v (c .args .next .now))) ∙ sym (c .if-not-word-fits .ensures tt)))
+    (sym (fits-prefix v xs (n - 0) n (omega arith) h (g .W·Word .start) (event v (c .args .next .now))) ∙ sym (c .if-not-word-fits .ensures tt)))
