@@ -7,7 +7,7 @@ use crate::search::partner_of;
 use keepers::Keeper;
 use operations::Operation;
 use operations::PairingRule;
-use operations::Word;
+use words::Word;
 use operations::word_fits;
 ghost use lib.ListN.{length, set};
 ghost use mathlib.Core.Path.{_≡_};
@@ -19,8 +19,11 @@ ghost use Rattle.operations.specs.Rules.{pairing};
 ghost use Rattle.examination.specs.Admission.{setting, exam, tally, checks, admission, after-admission, recorded, opening, opened};
 ghost use Rattle.examination.specs.Runs.{AdmissionExact};
 
+// A class is at most this.
+const HIGHEST_CLASS: u8 = 15;
+
 // The answer to an admission: the operation's number, and its racing partner if it has one.
-#[derive(Clone, Copy, PartialEq, Eq, Debug)]
+#[derive(Clone, Copy)]
 pub struct Admitted {
     pub number: u16,
     pub partner: Option<u16>,
@@ -65,7 +68,7 @@ impl Open {
         if keeper.count() != self.admitted {
             return Err(ExamFault::CountDiffers);
         }
-        if next.class > 15 {
+        if next.class > HIGHEST_CLASS {
             return Err(ExamFault::ClassTooHigh);
         }
         if !word_fits(&log[0..n], next) {

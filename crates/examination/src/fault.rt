@@ -1,7 +1,6 @@
 use keepers::Adds;
 use keepers::KeeperFault;
 use keepers::KeeperFaultDebug;
-use keepers::KeeperFaultEq;
 use keepers::KeeperFaultPartialEq;
 use keepers::Refusal;
 ghost use mathlib.Core.Path.{_≡_};
@@ -9,7 +8,7 @@ ghost use Rattle.examination.specs.Refusals.{exam-refusal};
 ghost use Rattle.examination.specs.declared.fault.ExamFault.the-variants.{Keeper as InExam};
 
 // Why an examination refuses; a keeper's fault travels inside.
-#[derive(Clone, Copy, PartialEq, Eq, Debug)]
+#[derive(Clone, Copy, PartialEq, Debug)]
 pub enum ExamFault {
     Keeper(KeeperFault),
     CountDiffers,

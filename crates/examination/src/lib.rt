@@ -13,7 +13,6 @@ pub use admission::Admitted;
 pub use closing::Verdict;
 pub use fault::ExamFault;
 pub use fault::ExamFaultDebug;
-pub use fault::ExamFaultEq;
 pub use fault::ExamFaultPartialEq;
 pub use fault::ExamFromKeeper;
 pub use open::Open;

@@ -6,7 +6,7 @@ ghost use Rattle.examination.specs.Asking.{order-answer};
 ghost use Rattle.examination.specs.Runs.{OrderExact};
 
 // Two operations in a data race: an operation, and its racing partner, which is earlier.
-#[derive(Clone, Copy, PartialEq, Eq, Debug)]
+#[derive(Clone, Copy)]
 pub struct RacingPair {
     pub partner: u16,
     pub operation: u16,

@@ -1,7 +1,7 @@
 use keepers::Keeper;
 use operations::Operation;
 use operations::PairingRule;
-use operations::Word;
+use words::Word;
 use operations::may_race;
 use operations::paired_release;
 ghost use lib.ListN.{length};

@@ -23,13 +23,13 @@ abbrev pub pile-over : Meaning → Meaning
 pile-over m = renumbered mirrored (allowed 512 m)
 
 -- what the program prints is taken from: the answer, how many operations were admitted, the record and the partners
-pub record Listed (W : Type 0) : Type 0 where
+pub record Listing (W : Type 0) : Type 0 where
   pub answer : Result Said FileFault
   pub admitted : ℕ
   pub log : List (Operation W)
   pub partners : List (Option ℕ)
 
-abbrev pub listed : {W : Type 0} → Outcome W → Listed W
+abbrev pub listed : {W : Type 0} → Outcome W → Listing W
 listed x = record { answer = x .answer; admitted = held (x .keeper); log = x .log; partners = x .partners }
 
 -- the run that is listed: the operations that were admitted, under the step rule

@@ -3,13 +3,13 @@
 mod pile;
 mod table;
 
-use operations::Count;
-use operations::CountWord;
-use operations::Edge;
-use operations::EdgeWord;
+use words::Count;
+use words::CountWord;
+use words::Edge;
+use words::EdgeWord;
 use operations::Kind;
 use operations::Operation;
-use operations::Word;
+use words::Word;
 use record_file::Directory;
 use record_file::FileFault;
 use record_file::WordType;

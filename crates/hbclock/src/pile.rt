@@ -8,14 +8,16 @@ use keepers::RenumberList;
 use operations::Operation;
 use operations::StepPairing;
 use operations::StepRule;
-use operations::Word;
+use words::Word;
 use reader::examine;
 use record_file::FileFault;
+ghost use lib.ListN.{take};
 ghost use mathlib.Core.Path.{_≡_};
 ghost use Rattle.examination.specs.Admission.{setting};
 ghost use Rattle.hbclock.specs.Pile.{mirrored, pile-over, listed, run-listed};
+ghost use Rattle.keepers.specs.Meaning.{held};
 ghost use Rattle.operations.specs.Rules.{step-pairs};
-ghost use Rattle.reader.specs.Examining.{answered, examined, Told};
+ghost use Rattle.reader.specs.Examining.{answered, examined, Told, operations-in, Listed};
 ghost use Rattle.record_file.specs.Records.{file-items};
 
 // Entry p is 15 - p.
@@ -45,6 +47,7 @@ pub fn find<W: Word, K: Keeper + Drop>(
 ) -> Finding
     ensures outcome { λ r. ⌜ record { answer = answered (r .verdict); admitted = r .admitted; log = now (log .exit); partners = now (partners .exit) } ≡ listed (examined (W·Word .value) (setting step-pairs (W·Word .start)) (now (log .entry)) (pile-over (K·Keeper .meaning keeper)) (now (partners .entry)) (file-items (W·Word .decoded) (W·Word .size) (now (file .entry)))) ⌝ }
     ensures exact { λ r. ⌜ Told (run-listed (W·Word .value) (now (log .exit)) (r .admitted)) (r .verdict) ⌝ }
+    ensures complete { λ r. ⌜ (held (K·Keeper .meaning keeper) ≡ 0 → Listed (operations-in (file-items (W·Word .decoded) (W·Word .size) (now (file .entry)))) (take (r .admitted) (now (log .exit))) (r .verdict)) ⌝ }
 {
     let mut pile = Renumber::new(mirrored_list(), Allowance::new(512, keeper));
     let verdict = examine(file, log, &mut pile, &StepRule, partners);

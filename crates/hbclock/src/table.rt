@@ -6,7 +6,7 @@ use examination::Verdict;
 use keepers::Adds;
 use keepers::Processors;
 use operations::Operation;
-use operations::Word;
+use words::Word;
 use record_file::FileFault;
 use std::io;
 

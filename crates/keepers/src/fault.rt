@@ -4,7 +4,7 @@ ghost use mathlib.Core.Path.{_≡_};
 ghost use Rattle.keepers.specs.Refusals.{keeper-refusal};
 
 // Why a keeper refuses; a pile of layers refuses as one keeper.
-#[derive(Clone, Copy, PartialEq, Eq, Debug)]
+#[derive(Clone, Copy, PartialEq, Debug)]
 pub enum KeeperFault {
     Unfit = 1,
     NotAdmitted = 2,

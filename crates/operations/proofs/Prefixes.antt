@@ -14,7 +14,7 @@ use Rattle.operations.specs.declared.operation.Operation.{Operation}
 use Rattle.operations.specs.Events.{Event, event, events, at, nothing}
 use Rattle.operations.specs.Kinds.{reads, acquire-kind, release-kind}
 use Rattle.operations.specs.Sources.{last-such, writes-to, latest-write, word-from, fits-source, if-paired, release-for}
-use Rattle.operations.specs.Words.{same-word}
+use Rattle.words.specs.Words.{same-word}
 use Rattle.operations.proofs.Searching.{such-agree, such-found}
 
 module _ (op op′ : ℕ → Event) (n : ℕ) (same : (k : ℕ) → k < n → op k ≡ op′ k) where

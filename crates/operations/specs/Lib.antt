@@ -1,6 +1,4 @@
 pub mod Kinds
-pub mod Bytes
-pub mod Words
 pub mod Rules
 pub mod Events
 pub mod Sources

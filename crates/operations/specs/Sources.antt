@@ -8,7 +8,7 @@ use lib.IntN.{ℤ}
 use Rattle.std.specs.declared.option.Option.{Option}
 use Rattle.std.specs.declared.option.Option.the-variants.{Some, None}
 use Rattle.operations.specs.Kinds.{reads, writes, acquire-kind, release-kind}
-use Rattle.operations.specs.Words.{same-word}
+use Rattle.words.specs.Words.{same-word}
 use Rattle.operations.specs.Events.{Event}
 
 -- the last number below n that passes the test

@@ -2,7 +2,7 @@ ghost use mathlib.Core.Path.{_≡_};
 ghost use Rattle.operations.specs.Kinds.{reads as kind-reads, writes as kind-writes, data-kind, acquire-kind, release-kind, code-of, kind-of};
 
 // The six kinds of operation; the number of each is its code in a record file.
-#[derive(Clone, Copy, PartialEq, Eq, Debug)]
+#[derive(Clone, Copy, PartialEq)]
 pub enum Kind {
     DataRead = 0,
     DataWrite = 1,

@@ -1,13 +1,10 @@
-// Operations on shared memory: their kinds, words and pairing rules, and what a record of them tells.
+// Operations on shared memory: their kinds and pairing rules, and what a record of them tells.
 mod kind;
 mod operation;
 mod rule;
 mod source;
-mod word;
 
 pub use kind::Kind;
-pub use kind::KindDebug;
-pub use kind::KindEq;
 pub use kind::KindPartialEq;
 pub use operation::Operation;
 pub use operation::OperationClone;
@@ -18,8 +15,3 @@ pub use rule::StepRule;
 pub use source::latest_write;
 pub use source::paired_release;
 pub use source::word_fits;
-pub use word::Count;
-pub use word::CountWord;
-pub use word::Edge;
-pub use word::EdgeWord;
-pub use word::Word;

@@ -3,7 +3,7 @@ ghost use Rattle.operations.specs.Events.{event};
 ghost use Rattle.operations.specs.Races.{conflict as conflict-test, may-race};
 ghost use Rattle.operations.specs.Sources.{writes-to};
 use crate::kind::Kind;
-use crate::word::Word;
+use words::Word;
 
 // One access to shared memory. The class stands for the instruction that made it.
 #[derive(Clone, Copy)]

@@ -9,7 +9,7 @@ ghost use Rattle.operations.specs.Rules.{pairing};
 ghost use Rattle.operations.specs.Sources.{latest-write, release-for, fits-source};
 use crate::operation::Operation;
 use crate::rule::PairingRule;
-use crate::word::Word;
+use words::Word;
 
 // The latest write of any kind to a location, among the operations of a record.
 pub fn latest_write<W: Word>(log: &[Operation<W>], location: u16) -> Option<usize>

@@ -1,7 +1,8 @@
 -- What the examination of a record file answers and leaves. Assumes nothing.
 use Prim.Native.Nat.{ℕ}
 use mathlib.Core.Bool.{Bool}
-use mathlib.Core.List.{List}
+use mathlib.Core.List.{List, [], _∷_, _++_}
+use mathlib.Core.Path.{_≡_}
 use lib.IntN.{ℤ}
 use Rattle.std.specs.declared.option.Option.{Option}
 use Rattle.std.specs.declared.result.Result.{Result}
@@ -19,7 +20,7 @@ use Rattle.examination.specs.Closing.{Said, closing, said}
 use Rattle.examination.specs.Runs.{Holds}
 use Rattle.record_file.specs.declared.fault.FileFault.{FileFault}
 use Rattle.record_file.specs.declared.fault.FileFault.the-variants.{Record}
-use Rattle.record_file.specs.Records.{Item}
+use Rattle.record_file.specs.Records.{Item, operation, stop}
 use Rattle.reader.specs.Reading.{Reading, Ended, read}
 
 -- how the code's values are read
@@ -61,3 +62,14 @@ run-of value G log m = record { size = held m; op = at (events value log); pairs
 abbrev pub Told : History → Result Verdict FileFault → Type 0
 Told H (Ok v) = Holds H (said v)
 Told H (Err f) = Unit {0}
+
+-- the operations of a file in order, up to the first fault in it
+abbrev pub operations-in : {W : Type 0} → List (Item W) → List (Operation W)
+operations-in [] = []
+operations-in (stop f ∷ items) = []
+operations-in (operation at o ∷ items) = o ∷ operations-in items
+
+-- what was admitted is the beginning of that, and all of it where no fault is reported
+abbrev pub Listed : {W : Type 0} → List (Operation W) → List (Operation W) → Result Verdict FileFault → Type 0
+Listed all here (Ok v) = all ≡ here
+Listed {W} all here (Err f) = (rest : List (Operation W)) × (all ≡ here ++ rest)

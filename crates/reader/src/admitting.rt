@@ -3,7 +3,7 @@ use examination::Open;
 use keepers::Keeper;
 use operations::Operation;
 use operations::PairingRule;
-use operations::Word;
+use words::Word;
 use record_file::AtOffset;
 use record_file::Directory;
 use record_file::FileFault;

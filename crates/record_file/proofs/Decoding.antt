@@ -11,7 +11,7 @@ use Rattle.std.specs.declared.option.Option.the-variants.{Some, None}
 use Rattle.std.specs.declared.result.Result.{Result}
 use Rattle.std.specs.declared.result.Result.the-variants.{Ok}
 use Rattle.std.proofs.shelf.Tests.{and-from, lt-ltb, eq-eqb}
-use Rattle.operations.specs.Bytes.{big16}
+use Rattle.words.specs.Bytes.{big16}
 use Rattle.operations.specs.Kinds.{kind-of}
 use Rattle.operations.specs.declared.kind.Kind.{Kind}
 use Rattle.operations.specs.declared.operation.Operation.{Operation}

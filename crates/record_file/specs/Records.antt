@@ -8,7 +8,7 @@ use Rattle.std.specs.declared.option.Option.{Option}
 use Rattle.std.specs.declared.option.Option.the-variants.{Some, None}
 use Rattle.std.specs.declared.result.Result.{Result}
 use Rattle.std.specs.declared.result.Result.the-variants.{Ok, Err}
-use Rattle.operations.specs.Bytes.{big16}
+use Rattle.words.specs.Bytes.{big16}
 use Rattle.operations.specs.Kinds.{kind-of}
 use Rattle.operations.specs.declared.kind.Kind.{Kind}
 use Rattle.operations.specs.declared.operation.Operation.{Operation}

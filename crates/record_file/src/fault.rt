@@ -1,6 +1,5 @@
 use crate::placed::Placed;
 use crate::placed::PlacedDebug;
-use crate::placed::PlacedEq;
 use crate::placed::PlacedPartialEq;
 use keepers::Adds;
 use keepers::Refusal;
@@ -9,7 +8,7 @@ ghost use Rattle.record_file.specs.Refusals.{file-refusal};
 ghost use Rattle.record_file.specs.declared.fault.FileFault.the-variants.{Record as InFile};
 
 // Why a record file is refused; all but the header's fault say where in the file it stands.
-#[derive(Clone, Copy, PartialEq, Eq, Debug)]
+#[derive(Clone, Copy, PartialEq, Debug)]
 pub enum FileFault {
     // The header or the word type is unfit, or the directory goes past the file's end.
     Header,

@@ -2,7 +2,7 @@ use crate::fault::FileFault;
 ghost use mathlib.Core.Path.{_≡_};
 ghost use Prim.Native.Nat.{_+_, _<_, _≤_};
 ghost use lib.ListN.{length};
-ghost use Rattle.operations.specs.Bytes.{big32};
+ghost use Rattle.words.specs.Bytes.{big32};
 ghost use Rattle.std.specs.Options.{Cases as BySome};
 ghost use Rattle.record_file.specs.Directory.{pair-place, end-if-fit, first-unfit, pairs-checked};
 

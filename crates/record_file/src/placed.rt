@@ -1,13 +1,12 @@
 use examination::ExamFault;
 use examination::ExamFaultDebug;
-use examination::ExamFaultEq;
 use examination::ExamFaultPartialEq;
 ghost use mathlib.Core.Path.{_≡_};
 ghost use Prim.Native.Nat.{ℕ};
 ghost use Rattle.record_file.specs.Placing.{placed-at};
 
 // An examination's fault, and where in the file the record stands that it is about.
-#[derive(Clone, Copy, PartialEq, Eq, Debug)]
+#[derive(Clone, Copy, PartialEq, Debug)]
 pub struct Placed {
     pub offset: usize,
     pub fault: ExamFault,

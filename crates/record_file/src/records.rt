@@ -2,7 +2,7 @@ use crate::fault::FileFault;
 use crate::section::Section;
 use operations::Kind;
 use operations::Operation;
-use operations::Word;
+use words::Word;
 ghost use mathlib.Core.Bool.{true, false};
 ghost use mathlib.Core.Path.{_≡_};
 ghost use lib.ListN.{length, getD, drop};

@@ -2,7 +2,7 @@ ghost use mathlib.Core.Path.{_≡_};
 ghost use Rattle.record_file.specs.WordTypes.{word-type-of};
 
 // The type of the words in a record file; the number of each is its code.
-#[derive(Clone, Copy, PartialEq, Eq, Debug)]
+#[derive(Clone, Copy)]
 pub enum WordType {
     Count = 1,
     Edge = 2,

@@ -20,11 +20,11 @@ returns-then-count-self g c =
     let xs = c .args .log .now in
     sym (differs (g .W·Word .start) (exam v xs (g .K·Keeper .meaning (c .args .keeper .now)) (c .args .self .now)) (event v (c .args .next .now)) (omega (arith, length-map xs (event v), c .if-n-log .left)) (λ e. c .if-count-self .taken (c .count .ensures ∙ e)))
 
-pub returns-then-next-gt15 : need.returns-then-next-gt15
-returns-then-next-gt15 g c =
+pub returns-then-next-gt-HIGHEST-CLASS : need.returns-then-next-gt-HIGHEST-CLASS
+returns-then-next-gt-HIGHEST-CLASS g c =
     let v = g .W·Word .value in
     let xs = c .args .log .now in
-    sym (high (g .W·Word .start) (exam v xs (g .K·Keeper .meaning (c .args .keeper .now)) (c .args .self .now)) (event v (c .args .next .now)) (omega (arith, length-map xs (event v), c .if-n-log .left)) (sym (c .count .ensures) ∙ c .if-count-self .left) (omega (arith, c .if-next-gt15 .taken)))
+    sym (high (g .W·Word .start) (exam v xs (g .K·Keeper .meaning (c .args .keeper .now)) (c .args .self .now)) (event v (c .args .next .now)) (omega (arith, length-map xs (event v), c .if-n-log .left)) (sym (c .count .ensures) ∙ c .if-count-self .left) (omega (arith, c .if-next-gt-HIGHEST-CLASS .taken)))
 
 pub returns-then-not-word-fits : need.returns-then-not-word-fits
 returns-then-not-word-fits g c =
@@ -32,7 +32,7 @@ returns-then-not-word-fits g c =
     let xs = c .args .log .now in
     let n = c .args .self .now .admitted in
     let h : n ≤ length xs = omega (arith, c .if-n-log .left) in
-    sym (wrong (g .W·Word .start) (exam v xs (g .K·Keeper .meaning (c .args .keeper .now)) (c .args .self .now)) (event v (c .args .next .now)) (omega (arith, length-map xs (event v), c .if-n-log .left)) (sym (c .count .ensures) ∙ c .if-count-self .left) (omega (arith, c .if-next-gt15 .left))
+    sym (wrong (g .W·Word .start) (exam v xs (g .K·Keeper .meaning (c .args .keeper .now)) (c .args .self .now)) (event v (c .args .next .now)) (omega (arith, length-map xs (event v), c .if-n-log .left)) (sym (c .count .ensures) ∙ c .if-count-self .left) (omega (arith, c .if-next-gt-HIGHEST-CLASS .left))
     (sym (fits-prefix v xs (n - 0) n (omega arith) h (g .W·Word .start) (event v (c .args .next .now))) ∙ sym (c .if-not-word-fits .ensures tt)))
 
 pub returns : need.returns
@@ -41,5 +41,5 @@ returns g c =
     let xs = c .args .log .now in
     let n = c .args .self .now .admitted in
     let h : n ≤ length xs = omega (arith, c .if-n-log .left) in
-    sym (pass (g .W·Word .start) (exam v xs (g .K·Keeper .meaning (c .args .keeper .now)) (c .args .self .now)) (event v (c .args .next .now)) (omega (arith, length-map xs (event v), c .if-n-log .left)) (sym (c .count .ensures) ∙ c .if-count-self .left) (omega (arith, c .if-next-gt15 .left))
+    sym (pass (g .W·Word .start) (exam v xs (g .K·Keeper .meaning (c .args .keeper .now)) (c .args .self .now)) (event v (c .args .next .now)) (omega (arith, length-map xs (event v), c .if-n-log .left)) (sym (c .count .ensures) ∙ c .if-count-self .left) (omega (arith, c .if-next-gt-HIGHEST-CLASS .left))
     (sym (fits-prefix v xs (n - 0) n (omega arith) h (g .W·Word .start) (event v (c .args .next .now))) ∙ sym (c .if-not-word-fits .ensures tt)))

@@ -3,7 +3,7 @@ use native.Mathlib.Omega.{arith}
 use mathlib.Core.Logic.{⊎-elim}
 use mathlib.Core.Path.{_≡_, ap, _∙_}
 use lib.ListN.{length}
-use Rattle.operations.specs.Bytes.{big32}
+use Rattle.words.specs.Bytes.{big32}
 use Rattle.record_file.specs.Directory.{section-start, section-size}
 use Rattle.record_file.proofs.Fitting.{section-within}
 use Rattle.record_file.proofs.directory.Directory.section.Needs as need
