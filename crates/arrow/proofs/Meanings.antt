@@ -14,17 +14,14 @@ use Rattle.std.specs.declared.option.Option.the-variants.{Some, None}
 use Rattle.std.specs.declared.result.Result.the-variants.{Ok, Err}
 use Rattle.std.proofs.shelf.Tests.{cases-lt, lt-ltb, le-ltb, ltb-true, and-left, and-right}
 use Rattle.keepers.specs.Meaning.{Meaning, held, most-held}
-use Rattle.keepers.specs.Adding.{added, addition, giver-held, outcome}
+use Rattle.keepers.specs.Adding.{Among, added, addition, outcome}
 use Rattle.keepers.specs.Asking.{order}
+use Rattle.keepers.specs.Prefix.{Same}
 use Rattle.keepers.specs.declared.fault.KeeperFault.the-variants.{NotHeld}
+use Rattle.keepers.proofs.Prefix.{set-same}
+use Rattle.keepers.proofs.Accepting.{given-among, passed}
 use Rattle.arrow.specs.Arrows.{processor-of, giver-of, stored, arrows, Admitted}
 use Rattle.arrow.specs.Bounds.{arrows-admits, arrows-held, arrows-room}
-use Rattle.arrow.proofs.Latest.{Among}
-use Rattle.arrow.proofs.Passing.{passed}
-
--- two lists have the same first n numbers
-abbrev pub Same : List ℕ → List ℕ → ℕ → Type 0
-Same xs ys n = (i : ℕ) → i < n → getD ys i 0 ≡ getD xs i 0
 
 -- two lists with the same first n operations
 pub arrows-same : (xs ys : List ℕ) (m n capacity : ℕ) → Same xs ys (2 * n) → arrows ys m n capacity ≡ arrows xs m n capacity
@@ -41,10 +38,6 @@ admitted-same xs ys m n same a k h = omega (arith, same (2 * k) (omega arith), a
 pub admitted-more : (xs : List ℕ) (m n : ℕ) → Admitted xs m n → processor-of xs n < m → Admitted xs m (n + 1)
 admitted-more xs m n a h k l = ⊎-elim (λ b. a k b) (λ b. let e : n ≡ k = omega arith in subst (λ z. processor-of xs z < m) e h) (cases-lt k n)
 
--- a write past the first n numbers
-pub set-same : (xs : List ℕ) (i v n : ℕ) → n ≤ i → Same xs (set xs i v) n
-set-same xs i v n h = λ j l. getD-set-other xs i j v 0 (omega arith)
-
 -- a stored giver is read back
 stored-giver : (o : Option ℕ) (n v : ℕ) → Among o n → n ≤ most-held → v ≡ stored o → cond (ltb v n) (Some v) None ≡ o
 stored-giver None n v h l e = let t : ltb v n ≡ false = le-ltb v n (omega arith) in simp t
@@ -54,17 +47,13 @@ module _ (xs : List ℕ) (m n capacity : ℕ) where
   abbrev M : Meaning
   M = arrows xs m n capacity
 
-  given : (o : Option ℕ) → giver-held M o ≡ true → Among o n
-  given None e = tt
-  given (Some g) e = omega (arith, arrows-held xs m n capacity, ltb-true g (held M) e)
-
   -- what a check that passes says
   pub checked : (p : ℕ) (o : Option ℕ) → Ok tt ≡ outcome (addition M p o) → (addition M p o ≡ Ok n) × (p < m) × Among o n × (n < capacity)
   checked p o e =
       let a = passed M p o e in (
         a .0 ∙ ap Ok (arrows-held xs m n capacity),
         ltb-true p m (sym (arrows-admits xs m n capacity p) ∙ a .1 .admitted),
-        given o (a .1 .given),
+        subst (Among o) (arrows-held xs m n capacity) (given-among M o (a .1 .given)),
         omega (arith, arrows-room xs m n capacity, a .1 .room),
       )
 
@@ -86,7 +75,7 @@ module _ (xs : List ℕ) (m n capacity : ℕ) where
   added-is p v o within few h e =
       let zs = set xs (2 * n) p in
       let ys = set zs (2 * n + 1) v in
-      let same : Same xs ys (2 * n) = λ i b. set-same zs (2 * n + 1) v (2 * n) (omega arith) i b ∙ set-same xs (2 * n) p (2 * n) (omega arith) i b in
+      let same : Same xs ys (2 * n) = set-same xs zs (2 * n + 1) v (2 * n) (omega arith) (set-same xs xs (2 * n) p (2 * n) (omega arith) (λ i b. refl)) in
       let here : processor-of ys n ≡ p = getD-set-other zs (2 * n + 1) (2 * n) v 0 (omega arith) ∙ getD-set-same xs (2 * n) p 0 (omega arith) in
       let there : getD ys (2 * n + 1) 0 ≡ stored o = getD-set-same zs (2 * n + 1) v 0 (omega (arith, length-set xs (2 * n) p)) ∙ e in
       ap (λ k. arrows ys m k capacity) (add-one n)

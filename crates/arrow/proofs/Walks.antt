@@ -13,10 +13,10 @@ use Rattle.std.specs.declared.option.Option.the-variants.{Some, None}
 use Rattle.std.proofs.shelf.Lists.{getD-append-left, getD-push}
 use Rattle.std.proofs.shelf.Tests.{cases-lt, cases-eq, le-leb, lt-leb, lt-ltb, le-ltb, eq-eqb, ne-eqb, and-left}
 use Rattle.keepers.specs.Meaning.{Meaning, held, most-processors}
-use Rattle.keepers.specs.Adding.{latest-of, latest, reaches}
+use Rattle.keepers.specs.Adding.{latest-of, Among, latest, reaches}
+use Rattle.keepers.proofs.Latest.{latest-among, latest-same, latest-here, latest-earlier}
 use Rattle.arrow.specs.Arrows.{processor-of, giver-of, arrows, Clear, with-giver}
 use Rattle.arrow.specs.Bounds.{arrows-held}
-use Rattle.arrow.proofs.Latest.{Among, latest-among, latest-same, latest-here, latest-earlier}
 use Rattle.arrow.proofs.Scans.{scan, scan-same, scan-first, scan-second, scan-more, scan-weaker}
 
 -- the giver of operation k is below k

@@ -1,5 +1,5 @@
 -- Rows that stay sound: as they are, and with one more. Assumes nothing.
-use Prim.Native.Nat.{ℕ, _+_, _-_, _*_, _<_, _≤_, zero, suc, max, zero-le}
+use Prim.Native.Nat.{ℕ, _+_, _*_, _<_, _≤_, zero, suc, max, zero-le}
 use native.Mathlib.Omega.{arith}
 use native.Mathlib.Nat.{le-refl}
 use native.Mathlib.Numerals.{add-one}
@@ -8,14 +8,14 @@ use mathlib.Core.Bool.{true, false, cond}
 use mathlib.Core.List.{List}
 use mathlib.Core.Logic.{⊎-elim}
 use lib.Dec.{eqb}
-use lib.ListN.{set}
-use lib.Seq.{getD-set-other}
 use lib.Arith.{digits-lt}
 use Rattle.std.specs.declared.option.Option.{Option}
 use Rattle.std.specs.declared.option.Option.the-variants.{Some, None}
 use Rattle.std.proofs.shelf.Tests.{cases-lt, cases-eq, eq-eqb, ne-eqb}
-use Rattle.keepers.specs.Adding.{latest-of}
-use Rattle.clock.specs.Rows.{processor-of, count-of, own-count, latest-count, Sound, count-from, new-count, Among, Same}
+use Rattle.keepers.specs.Adding.{latest-of, Among}
+use Rattle.keepers.specs.Prefix.{Same}
+use Rattle.keepers.proofs.Latest.{latest-among}
+use Rattle.clock.specs.Rows.{processor-of, count-of, own-count, latest-count, Sound, count-from, new-count}
 
 -- two lists with the same first n rows
 module _ (xs ys : List ℕ) (m n : ℕ) (same : Same xs ys (n * (m + 1))) where
@@ -45,37 +45,6 @@ module _ (xs ys : List ℕ) (m n : ℕ) (same : Same xs ys (n * (m + 1))) where
     λ k q h b. omega (arith, same-count k q h b, s .3 k q h b),
   )
 
--- the latest operation of a processor
-pub among-more : (o : Option ℕ) (n : ℕ) → Among o n → Among o (suc n)
-among-more None n h = h
-among-more (Some k) n h = omega arith
-
-pub latest-among : (f : ℕ → ℕ) (p n : ℕ) → Among (latest-of f p n) n
-latest-among f p zero = tt
-latest-among f p (suc n) =
-    elim (eqb (f n) p) as (λ b. Among (cond b (Some n) (latest-of f p n)) (suc n)) [ true ↦ omega arith | false ↦ among-more (latest-of f p n) n (latest-among f p n) ]
-
-pub latest-within : (f : ℕ → ℕ) (p n : ℕ) (l : Option ℕ) → l ≡ latest-of f p n → Among l n
-latest-within f p n l e = subst (λ o. Among o n) (sym e) (latest-among f p n)
-
-pub latest-same : (f g : ℕ → ℕ) (p n : ℕ) → ((k : ℕ) → k < n → f k ≡ g k) → latest-of f p n ≡ latest-of g p n
-latest-same f g p zero h = refl
-latest-same f g p (suc n) h =
-    let e = h n (omega arith) in
-    let r = latest-same f g p n (λ k b. h k (omega arith)) in
-    cc
-
--- a step back: operation k - 1 is p's, or not
-latest-back : (f : ℕ → ℕ) (p k : ℕ) → 0 < k → latest-of f p k ≡ cond (eqb (f (k - 1)) p) (Some (k - 1)) (latest-of f p (k - 1))
-latest-back f p zero h = absurd (omega arith)
-latest-back f p (suc j) h = let e : j ≡ suc j - 1 = omega arith in ap (λ i. cond (eqb (f i) p) (Some i) (latest-of f p i)) e
-
-pub latest-here : (f : ℕ → ℕ) (p k : ℕ) → 0 < k → f (k - 1) ≡ p → latest-of f p k ≡ Some (k - 1)
-latest-here f p k h e = latest-back f p k h ∙ ap (λ t. cond t (Some (k - 1)) (latest-of f p (k - 1))) (eq-eqb (f (k - 1)) p e)
-
-pub latest-earlier : (f : ℕ → ℕ) (p k : ℕ) → 0 < k → (f (k - 1) ≡ p → ⊥) → latest-of f p k ≡ latest-of f p (k - 1)
-latest-earlier f p k h ne = latest-back f p k h ∙ ap (λ t. cond t (Some (k - 1)) (latest-of f p (k - 1))) (ne-eqb (f (k - 1)) p ne)
-
 -- what the latest operation of p counts of p
 pub latest-counts : (xs : List ℕ) (m p n : ℕ) → count-from xs m (latest-of (processor-of xs m) p n) p ≡ latest-count xs m p n
 latest-counts xs m p zero = refl
@@ -94,10 +63,6 @@ from-small xs m n s (Some k) h q b = s .3 k q h b
 pub from-same : (xs ys : List ℕ) (m n : ℕ) → Same xs ys (n * (m + 1)) → (o : Option ℕ) → Among o n → (q : ℕ) → q < m → count-from ys m o q ≡ count-from xs m o q
 from-same xs ys m n same None h q b = refl
 from-same xs ys m n same (Some k) h q b = same-count xs ys m n same k q h b
-
--- a write past the first n numbers
-pub set-same : (xs : List ℕ) (i v n : ℕ) → n ≤ i → Same xs (set xs i v) n
-set-same xs i v n h = λ j l. getD-set-other xs i j v 0 (omega arith)
 
 -- a new operation counts one more of its own processor
 pub one-more : (q p most v : ℕ) → (q ≡ p → v ≡ most + 1) → ((q ≡ p → ⊥) → v ≡ most) → v ≡ most + cond (eqb q p) 1 0

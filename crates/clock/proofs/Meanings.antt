@@ -11,26 +11,23 @@ use lib.ListN.{getD}
 use Rattle.std.specs.Iters.{counting}
 use Rattle.std.specs.declared.option.Option.{Option}
 use Rattle.std.specs.declared.option.Option.the-variants.{Some, None}
-use Rattle.std.specs.declared.result.Result.{Result}
 use Rattle.std.specs.declared.result.Result.the-variants.{Ok, Err}
 use Rattle.std.proofs.shelf.Counted.{length-map-counting, getD-map-counting, map-counting-more, fill-by-all}
-use Rattle.std.proofs.shelf.Tests.{cases-lt, cases-eq, lt-ltb, le-ltb, eq-eqb, ne-eqb}
+use Rattle.std.proofs.shelf.Tests.{cases-lt, cases-eq, lt-ltb, le-ltb, ltb-true, eq-eqb, ne-eqb}
 use Rattle.std.proofs.shelf.Ways.{tells}
 use Rattle.keepers.specs.Meaning.{Meaning, held, empty}
-use Rattle.keepers.specs.Adding.{latest-of, latest, reaches, added, addition, giver-held, outcome}
+use Rattle.keepers.specs.Adding.{latest-of, Among, latest, reaches, added, addition, outcome}
 use Rattle.keepers.specs.Asking.{order}
-use Rattle.keepers.specs.declared.fault.KeeperFault.{KeeperFault}
-use Rattle.keepers.specs.declared.fault.KeeperFault.the-variants.{NotAdmitted, GiverNotHeld, NoRoom, NotHeld}
-use Rattle.clock.specs.Rows.{processor-of, count-of, own-count, latest-count, Sound, counts, clock-before, clock, count-from, new-count, Among, Same}
-use Rattle.clock.proofs.Clocks.{same-processor, same-count, same-own, latest-among, latest-same, latest-counts, own-new}
+use Rattle.keepers.specs.Prefix.{Same}
+use Rattle.keepers.specs.declared.fault.KeeperFault.the-variants.{NotHeld}
+use Rattle.keepers.proofs.Latest.{latest-among, latest-same}
+use Rattle.keepers.proofs.Accepting.{given-among, passed}
+use Rattle.clock.specs.Rows.{processor-of, count-of, own-count, latest-count, Sound, counts, clock-before, clock, count-from, new-count}
+use Rattle.clock.proofs.Clocks.{same-processor, same-count, same-own, latest-counts, own-new}
 
 and-false : (x : Bool) → (x && false) ≡ false
 and-false true = refl
 and-false false = refl
-
--- a check that passes is no refusal
-never-passed : {A : Type 0} (f : KeeperFault) → _≡_ {A = Result (Unit {0}) KeeperFault} (Ok tt) (Err f) → A
-never-passed f e = let z : _≡_ {A = ℕ} 0 1 = cc in absurd (omega arith)
 
 -- tests on numbers: reaching no operation, and reaching operation k
 none-reaches : (a n o : ℕ) → (a < n → 0 < o) → false ≡ (ltb a n && leb o 0)
@@ -68,46 +65,15 @@ module _ (xs : List ℕ) (m n capacity : ℕ) where
       ap (latest-of (λ k. getD (M .processors) k 0) p) held-is
       ∙ latest-same _ (processor-of xs m) p n (λ k h. getD-map-counting (processor-of xs m) 0 n k k 0 h (omega arith))
 
-  giver-is : (o : Option ℕ) → Among o n → giver-held M o ≡ true
-  giver-is None h = refl
-  giver-is (Some g) h = lt-ltb g (held M) (omega (arith, held-is))
-
-  -- an addition that passes every check
-  pub accepted : (p : ℕ) (o : Option ℕ) → p < m → Among o n → n < capacity → addition M p o ≡ Ok n
-  accepted p o a h f =
-      let t : ltb p m ≡ true = lt-ltb p m a in
-      let u : giver-held M o ≡ true = giver-is o h in
-      let v : ltb 0 (capacity - n) ≡ true = lt-ltb 0 (capacity - n) (omega arith) in
-      simp (t, u, v) (ap Ok held-is)
-
   -- what a check that passes says
-  passed-admits : (p : ℕ) (o : Option ℕ) → Ok tt ≡ outcome (addition M p o) → p < m
-  passed-admits p o e =
-      ⊎-elim
-      (λ l. l)
-      (λ l. let t : ltb p m ≡ false = le-ltb p m l in never-passed NotAdmitted (simp t at e))
-      (cases-lt p m)
-
-  passed-giver : (p : ℕ) (o : Option ℕ) → p < m → Ok tt ≡ outcome (addition M p o) → Among o n
-  passed-giver p None a e = tt
-  passed-giver p (Some g) a e =
-      let t : ltb p m ≡ true = lt-ltb p m a in
-      ⊎-elim
-      (λ l. l)
-      (λ l. let u : ltb g (held M) ≡ false = le-ltb g (held M) (omega (arith, held-is)) in never-passed GiverNotHeld (simp (t, u) at e))
-      (cases-lt g n)
-
-  passed-room : (p : ℕ) (o : Option ℕ) → p < m → Among o n → Ok tt ≡ outcome (addition M p o) → n < capacity
-  passed-room p o a h e =
-      let t : ltb p m ≡ true = lt-ltb p m a in
-      let u : giver-held M o ≡ true = giver-is o h in
-      ⊎-elim
-      (λ l. l)
-      (λ l. let v : ltb 0 (capacity - n) ≡ false = le-ltb 0 (capacity - n) (omega arith) in never-passed NoRoom (simp (t, u, v) at e))
-      (cases-lt n capacity)
-
-  pub passed : (p : ℕ) (o : Option ℕ) → Ok tt ≡ outcome (addition M p o) → (p < m) × Among o n × (n < capacity)
-  passed p o e = (passed-admits p o e, passed-giver p o (passed-admits p o e) e, passed-room p o (passed-admits p o e) (passed-giver p o (passed-admits p o e) e) e)
+  pub checked : (p : ℕ) (o : Option ℕ) → Ok tt ≡ outcome (addition M p o) → (addition M p o ≡ Ok n) × (p < m) × Among o n × (n < capacity)
+  checked p o e =
+      let a = passed M p o e in (
+        a .0 ∙ ap Ok held-is,
+        ltb-true p m (a .1 .admitted),
+        subst (Among o) held-is (given-among M o (a .1 .given)),
+        omega (arith, a .1 .room),
+      )
 
   -- what is answered to an order question
   pub order-held : (a b : ℕ) (r : Bool) → a < n → b < n → r ≡ counts xs m a b → Ok r ≡ order M a b

@@ -1,14 +1,13 @@
 -- The rows of a clock keeper, and what they mean. Assumes nothing.
-use Prim.Native.Nat.{ℕ, _+_, _-_, _*_, _<_, _≤_, zero, suc, max}
+use Prim.Native.Nat.{ℕ, _+_, _-_, _*_, _/_, _<_, _≤_, zero, suc, min, max}
 use mathlib.Core.Bool.{Bool, cond, not, _&&_}
 use mathlib.Core.List.{List, map}
-use mathlib.Core.Path.{_≡_}
 use lib.Dec.{eqb, ltb, leb}
 use lib.ListN.{getD}
 use Rattle.std.specs.Iters.{counting}
 use Rattle.std.specs.declared.option.Option.{Option}
 use Rattle.std.specs.declared.option.Option.the-variants.{Some, None}
-use Rattle.keepers.specs.Meaning.{Meaning}
+use Rattle.keepers.specs.Meaning.{Meaning, most-held}
 
 -- A keeper for m processors has a row of m + 1 numbers for each operation: the operation's processor, and then
 -- for each processor how many of its operations are before this one or are this one.
@@ -58,6 +57,10 @@ counts xs m a b = not (eqb a b) && leb (own-count xs m a) (count-of xs m b (proc
 abbrev pub clock-before : List ℕ → ℕ → ℕ → ℕ → ℕ → Bool
 clock-before xs m n a b = (ltb a n && ltb b n) && counts xs m a b
 
+-- how many operations a keeper for m processors can hold over so many lent numbers
+abbrev pub clock-room : ℕ → ℕ → ℕ
+clock-room m lent = min most-held (lent / (m + 1))
+
 -- the meaning of n rows, out of those that there is space for
 abbrev pub clock : List ℕ → ℕ → ℕ → ℕ → Meaning
 clock xs m n capacity = record {
@@ -76,12 +79,3 @@ count-from xs m (Some k) q = count-of xs m k q
 -- giver count, and itself
 abbrev pub new-count : List ℕ → ℕ → ℕ → Option ℕ → Option ℕ → ℕ → ℕ
 new-count xs m p latest giver q = max (count-from xs m latest q) (count-from xs m giver q) + cond (eqb q p) 1 0
-
--- an operation, if there is one, is among the first n
-abbrev pub Among : Option ℕ → ℕ → Type 0
-Among None n = Unit {0}
-Among (Some k) n = k < n
-
--- two lists have the same first n numbers
-abbrev pub Same : List ℕ → List ℕ → ℕ → Type 0
-Same xs ys n = (i : ℕ) → i < n → getD ys i 0 ≡ getD xs i 0

@@ -3,13 +3,14 @@ use keepers::Keeper;
 use keepers::KeeperFault;
 use keepers::Processors;
 ghost use mathlib.Core.Path.{_≡_};
-ghost use Prim.Native.Nat.{ℕ, _+_, _*_, _/_, _<_, _≤_, min};
+ghost use Prim.Native.Nat.{ℕ, _+_, _*_, _<_, _≤_};
 ghost use lib.ListN.{length};
 ghost use denote.Ref.{now};
 ghost use Rattle.keepers.specs.Meaning.{empty, most-held, most-processors};
-ghost use Rattle.keepers.specs.Adding.{latest-of};
+ghost use Rattle.keepers.specs.Adding.{latest-of, Among};
+ghost use Rattle.keepers.specs.Prefix.{Same};
 ghost use Rattle.clock.specs.Bounds.{clock-bounded, clock-numbered};
-ghost use Rattle.clock.specs.Rows.{Admitted, Counted, LatestMost, AtMostHeld, clock, processor-of, count-of, count-from, new-count, counts, Among, Same};
+ghost use Rattle.clock.specs.Rows.{Admitted, Counted, LatestMost, AtMostHeld, clock, clock-room, processor-of, count-of, count-from, new-count, counts};
 
 // A keeper over lent numbers. Operation k has row k of `processors` + 1 numbers: its processor, and then for
 // each processor how many of its operations are before operation k or are operation k.
@@ -32,7 +33,7 @@ pub struct ClockKeeper<'a> {
 impl<'a> ClockKeeper<'a> {
     // An empty keeper, with room for as many operations as the lent numbers have rows, and at most 4,096.
     pub fn new(processors: Processors, numbers: &'a mut [u16]) -> ClockKeeper<'a>
-        ensures made { λ r. ⌜ clock (now (r .numbers)) (r .processors) (r .count) (r .capacity) ≡ empty (processors .count) (min most-held (length (now (numbers .entry)) / (processors .count + 1))) ⌝ }
+        ensures made { λ r. ⌜ clock (now (r .numbers)) (r .processors) (r .count) (r .capacity) ≡ empty (processors .count) (clock-room (processors .count) (length (now (numbers .entry)))) ⌝ }
         ensures kept { λ r. ⌜ now (r .numbers) ≡ now (numbers .entry) ⌝ }
     {
         let processors = processors.count();

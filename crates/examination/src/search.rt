@@ -1,9 +1,9 @@
 use keepers::Keeper;
 use operations::Operation;
 use operations::PairingRule;
-use words::Word;
 use operations::may_race;
 use operations::paired_release;
+use words::Word;
 ghost use lib.ListN.{length};
 ghost use mathlib.Core.Path.{_≡_};
 ghost use Prim.Native.Nat.{_<_, _≤_};

@@ -3,13 +3,8 @@
 mod pile;
 mod table;
 
-use words::Count;
-use words::CountWord;
-use words::Edge;
-use words::EdgeWord;
 use operations::Kind;
 use operations::Operation;
-use words::Word;
 use record_file::Directory;
 use record_file::FileFault;
 use record_file::WordType;
@@ -17,6 +12,11 @@ use std::io;
 use std::io::Read;
 use table::print_refusal;
 use table::print_run;
+use words::Count;
+use words::CountWord;
+use words::Edge;
+use words::EdgeWord;
+use words::Word;
 ghost use lib.ListN.{length};
 ghost use Prim.Native.Nat.{_≤_};
 ghost use Rattle.std.specs.Vec.{made};

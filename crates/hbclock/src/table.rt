@@ -6,12 +6,12 @@ use examination::Verdict;
 use keepers::Adds;
 use keepers::Processors;
 use operations::Operation;
-use words::Word;
 use record_file::FileFault;
 use std::io;
+use words::Word;
 
 // The last line of a refused file.
-pub fn print_refusal(rt: &LibcRuntime, fault: FileFault) -> io::Result<()> {
+pub(crate) fn print_refusal(rt: &LibcRuntime, fault: FileFault) -> io::Result<()> {
     let refusal = fault.refusal();
     let number = refusal.number;
     let Adds::Offset(offset) = refusal.adds else {
@@ -54,7 +54,7 @@ fn print_verdict(rt: &LibcRuntime, verdict: Verdict) -> io::Result<()> {
 }
 
 // Examines a file whose words are of type W, in a lent record, and prints all but the first line.
-pub fn print_run<W: Word>(
+pub(crate) fn print_run<W: Word>(
     rt: &LibcRuntime,
     file: &[u8],
     log: &mut [Operation<W>],

@@ -1,15 +1,16 @@
--- What an accepted addition shows of a keeper. Assumes nothing.
+-- What an accepted addition, or a check of one that passes, shows of a keeper. Assumes nothing.
 use Prim.Native.Nat.{ℕ, _<_}
 use native.Mathlib.Omega.{arith}
 use mathlib.Core.Bool.{Bool, true, false, cond}
-use mathlib.Core.Path.{_≡_, refl, sym, ap, _∙_}
+use mathlib.Core.Path.{_≡_, refl}
 use lib.Dec.{ltb}
 use Rattle.std.specs.declared.option.Option.{Option}
+use Rattle.std.specs.declared.option.Option.the-variants.{Some, None}
 use Rattle.std.specs.declared.result.Result.{Result}
 use Rattle.std.specs.declared.result.Result.the-variants.{Ok, Err}
 use Rattle.std.proofs.shelf.Tests.{ltb-true}
 use Rattle.keepers.specs.Meaning.{Meaning, held}
-use Rattle.keepers.specs.Adding.{addition, giver-held}
+use Rattle.keepers.specs.Adding.{Among, addition, giver-held, outcome}
 use Rattle.keepers.specs.declared.fault.KeeperFault.{KeeperFault}
 use Rattle.keepers.specs.declared.fault.KeeperFault.the-variants.{NotAdmitted, GiverNotHeld, NoRoom}
 
@@ -28,3 +29,20 @@ accepted m p giver k e = go (m .admits p) (giver-held m giver) (ltb 0 (m .room))
     go true true false ea eb ec e = absurd (let z : _≡_ {A = ℕ} 0 1 = cc in omega arith)
     go true false c ea eb ec e = absurd (let z : _≡_ {A = ℕ} 0 1 = cc in omega arith)
     go false b c ea eb ec e = absurd (let z : _≡_ {A = ℕ} 0 1 = cc in omega arith)
+
+-- a giver that is held
+pub given-among : (m : Meaning) (giver : Option ℕ) → giver-held m giver ≡ true → Among giver (held m)
+given-among m None e = tt
+given-among m (Some g) e = ltb-true g (held m) e
+
+passed-number : (r : Result ℕ KeeperFault) → Ok tt ≡ outcome r → (k : ℕ) × (r ≡ Ok k)
+passed-number (Ok k) e = (k, refl)
+passed-number (Err f) e = absurd (let z : _≡_ {A = ℕ} 0 1 = cc in omega arith)
+
+-- a check that passes
+pub passed : (m : Meaning) (p : ℕ) (giver : Option ℕ) → Ok tt ≡ outcome (addition m p giver) → (addition m p giver ≡ Ok (held m)) × Accepted m p giver (held m)
+passed m p giver e =
+    let r = passed-number (addition m p giver) e in
+    let a = accepted m p giver (r .0) (r .1) in
+    let f : addition m p giver ≡ Ok (held m) = (let n = a .number in let s = r .1 in cc) in
+    (f, accepted m p giver (held m) f)

@@ -1,3 +1,5 @@
 pub mod Placing
+pub mod Prefix
+pub mod Latest
 pub mod Renaming
 pub mod Accepting

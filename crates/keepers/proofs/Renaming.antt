@@ -1,7 +1,7 @@
 -- What a renumber layer does to a keeper's meaning. Assumes nothing.
-use Prim.Native.Nat.{ℕ, _+_, _-_, _<_, _≤_, zero, suc}
+use Prim.Native.Nat.{ℕ, _-_, _<_, _≤_}
 use native.Mathlib.Omega.{arith}
-use mathlib.Core.Path.{_≡_, refl, sym, ap, subst, fun-ext, _∙_}
+use mathlib.Core.Path.{_≡_, refl, sym, ap, fun-ext, _∙_}
 use mathlib.Core.Bool.{Bool, true, false, cond, _&&_, _||_}
 use mathlib.Core.List.{List, [], _∷_, _++_, map}
 use lib.Dec.{eqb, ltb}
@@ -21,13 +21,7 @@ use Rattle.keepers.specs.declared.fault.KeeperFault.the-variants.{Unfit, NotAd
 use Rattle.keepers.specs.Renumbering.{Once, place, entry-of}
 use Rattle.keepers.specs.Layers.{renumbered}
 use Rattle.keepers.proofs.Placing.{place-entry, same-test}
-
-pub latest-like : (f g : ℕ → ℕ) (p q n : ℕ) → ((k : ℕ) → k < n → eqb (f k) p ≡ eqb (g k) q) → latest-of f p n ≡ latest-of g q n
-latest-like f g p q zero h = refl
-latest-like f g p q (suc n) h =
-    let e = h n (omega arith) in
-    let r = latest-like f g p q n (λ k b. h k (omega arith)) in
-    cc
+use Rattle.keepers.proofs.Latest.{latest-like}
 
 module _ (xs : List ℕ) (m : Meaning) where
   abbrev R : Meaning

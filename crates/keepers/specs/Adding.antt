@@ -1,5 +1,5 @@
 -- What an addition does to a keeper's meaning. Assumes nothing.
-use Prim.Native.Nat.{ℕ, _-_, zero, suc}
+use Prim.Native.Nat.{ℕ, _-_, _<_, zero, suc}
 use mathlib.Core.Bool.{Bool, true, false, cond, _&&_, _||_}
 use mathlib.Core.List.{List, [], _∷_, _++_}
 use lib.Dec.{eqb, ltb}
@@ -16,6 +16,11 @@ use Rattle.keepers.specs.declared.fault.KeeperFault.the-variants.{NotAdmitted,
 abbrev pub latest-of : (ℕ → ℕ) → ℕ → ℕ → Option ℕ
 latest-of processor p zero = None
 latest-of processor p (suc n) = cond (eqb (processor n) p) (Some n) (latest-of processor p n)
+
+-- the operation that is given, if any, is among the first n
+abbrev pub Among : Option ℕ → ℕ → Type 0
+Among None n = Unit {0}
+Among (Some k) n = k < n
 
 -- the latest operation held that is p's
 abbrev pub latest : Meaning → ℕ → Option ℕ

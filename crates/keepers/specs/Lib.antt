@@ -5,3 +5,4 @@ pub mod Adding
 pub mod Asking
 pub mod Renumbering
 pub mod Layers
+pub mod Prefix

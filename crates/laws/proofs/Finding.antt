@@ -131,12 +131,6 @@ latest-such : (f : ℕ → ℕ) (p n : ℕ) → latest-of f p n ≡ last-such (�
 latest-such f p zero = refl
 latest-such f p (suc n) = ap (λ (o : Option ℕ). cond (eqb (f n) p) (Some n) o) (latest-such f p n)
 
-pub latest-like : (f g : ℕ → ℕ) (p n : ℕ) → ((k : ℕ) → k < n → f k ≡ g k) → latest-of f p n ≡ latest-of g p n
-latest-like f g p n same =
-    latest-such f p n
-    ∙ such-agree (λ k. eqb (f k) p) (λ k. eqb (g k) p) n (λ k h. ap (λ x. eqb x p) (same k h))
-    ∙ sym (latest-such g p n)
-
 pub next-one : (H : History) (a c b : ℕ) → Next H a b → Next H c b → a ≡ c
 next-one H a c b p q =
     ⊎-elim

@@ -21,7 +21,8 @@ use Rattle.keepers.specs.Adding.{latest-of, latest, reaches, added, giver-held}
 use Rattle.laws.specs.Exact.{Keeps}
 use Rattle.laws.proofs.Orders.{forwards, last-arrow}
 use Rattle.laws.proofs.Agreeing.{Agree, agree-flip, before-agree}
-use Rattle.laws.proofs.Finding.{release-found, release-named, release-earlier, release-agree, next-found, next-named, latest-like}
+use Rattle.laws.proofs.Finding.{release-found, release-named, release-earlier, release-agree, next-found, next-named}
+use Rattle.keepers.proofs.Latest.{latest-same as latest-agree}
 
 pub empty-keeps : (H : History) (m : Meaning) → H .size ≡ 0 → held m ≡ 0 → Keeps H m
 empty-keeps H m z e = record {
@@ -110,7 +111,7 @@ module _ (H H′ : History) (m : Meaning) (grows : Grows H H′) (keeps : Keeps 
   latest-same : latest m (new .processor) ≡ latest-of (λ k. H′ .op k .processor) (new .processor) n
   latest-same =
       ap (latest-of (λ k. getD (m .processors) k 0) (new .processor)) (keeps .count)
-      ∙ latest-like (λ k. getD (m .processors) k 0) (λ k. H′ .op k .processor) (new .processor) n
+      ∙ latest-agree (λ k. getD (m .processors) k 0) (λ k. H′ .op k .processor) (new .processor) n
       (λ k h. keeps .processors k h ∙ ap (λ (o : Event). o .processor) (agree .ops k h))
 
   n-inside : n < H′ .size

@@ -100,19 +100,20 @@ module _ {W : Type 0} (value : W → List ℤ) (G : Setting) where
   read-kept s (operation at o ∷ items) = go (admission G (exam-of value s) (event value o)) refl (read-kept (with-operation value G s o) items)
     where
       go : (x : Result Admitted ExamFault) → admission G (exam-of value s) (event value o) ≡ x
-        → Kept (with-operation value G s o) items (read value G (with-operation value G s o) items)
-        → Kept s (operation at o ∷ items) (if-admitted x at s (read value G (with-operation value G s o) items))
+          → Kept (with-operation value G s o) items (read value G (with-operation value G s o) items)
+          → Kept s (operation at o ∷ items) (if-admitted x at s (read value G (with-operation value G s o) items))
       go (Err f) is k = record { rest = o ∷ operations-in items; same = refl; all = λ e. absurd (let z : _≡_ {A = ℕ} 0 1 = cc in omega arith) }
       go (Ok a) is k = record {
-          rest = k .rest;
-          same = sym (append-assoc (take (s .numbers .admitted) (s .log)) (o ∷ []) (operations-in items)) ∙ ap (λ l. l ++ operations-in items) (sym (next-place s o (placed a is))) ∙ k .same;
-          all = k .all }
+        rest = k .rest;
+        same = sym (append-assoc (take (s .numbers .admitted) (s .log)) (o ∷ []) (operations-in items)) ∙ ap (λ l. l ++ operations-in items) (sym (next-place s o (placed a is))) ∙ k .same;
+        all = k .all;
+      }
         where
           placed : (a : Admitted) → admission G (exam-of value s) (event value o) ≡ Ok a → s .numbers .admitted < length (s .log)
           placed a is = ⊎-elim
-            (λ (t : Taken G (exam-of value s) (event value o)). let p = t .passes .place in let l = length-map (s .log) (event value) in omega arith)
-            (λ (t : Refused G (exam-of value s) (event value o)). absurd (let q = sym is ∙ t .answer in let z : _≡_ {A = ℕ} 0 1 = cc in omega arith))
-            (cases-admission G (exam-of value s) (event value o))
+              (λ (t : Taken G (exam-of value s) (event value o)). let p = t .passes .place in let l = length-map (s .log) (event value) in omega arith)
+              (λ (t : Refused G (exam-of value s) (event value o)). absurd (let q = sym is ∙ t .answer in let z : _≡_ {A = ℕ} 0 1 = cc in omega arith))
+              (cases-admission G (exam-of value s) (event value o))
 
   -- the same of a reading into a newly opened examination
   module _ (s s′ : Reading W) (items : List (Item W)) (none : s .numbers .admitted ≡ 0) (arrived : Reached G (exam-of value s′)) where

@@ -16,7 +16,7 @@ pub(crate) struct Header {
 
 impl Header {
     // The header of a file that is long enough for its directory.
-    pub fn read(file: &[u8]) -> Result<Header, FileFault>
+    pub(crate) fn read(file: &[u8]) -> Result<Header, FileFault>
         ensures value { λ r. ⌜ r ≡ header-of (now (file .entry)) ⌝ }
         ensures room { λ r. ⌜ made r (λ h. pair-place (h .sections) ≤ length (now (file .entry))) ⌝ }
     {

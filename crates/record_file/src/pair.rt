@@ -15,7 +15,7 @@ pub(crate) struct Pair {
 
 impl Pair {
     // The pair that stands at a place in the file.
-    pub fn read(file: &[u8], at: usize) -> Option<Pair>
+    pub(crate) fn read(file: &[u8], at: usize) -> Option<Pair>
         ensures { λ r. ⌜ BySome r (length (now (file .entry)) < at + 8) (λ p. (at + 8 ≤ length (now (file .entry))) × (p .offset ≡ big32 (now (file .entry)) at) × (p .length ≡ big32 (now (file .entry)) (at + 4))) ⌝ }
     {
         let [a, b, c, d, e, f, g, h, ..] = file.get(at..)? else {
@@ -27,14 +27,14 @@ impl Pair {
         })
     }
 
-    pub fn start(self) -> usize
+    pub(crate) fn start(self) -> usize
         ensures { λ r. ⌜ r ≡ self .offset ⌝ }
     {
         self.offset as usize
     }
 
     // Where the section ends; that may need more than 32 bits.
-    pub fn end(self) -> usize
+    pub(crate) fn end(self) -> usize
         ensures { λ r. ⌜ r ≡ self .offset + self .length ⌝ }
     {
         self.offset as usize + self.length as usize

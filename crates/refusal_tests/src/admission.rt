@@ -8,14 +8,14 @@ use keepers::AddsPartialEq;
 use keepers::Keeper;
 use keepers::KeeperFaultDebug;
 use keepers::Processors;
-use words::Count;
-use words::CountWord;
 use operations::Kind;
 use operations::KindPartialEq;
 use operations::Operation;
 use operations::StepPairing;
 use operations::StepRule;
 use std::test::*;
+use words::Count;
+use words::CountWord;
 
 // One admission into a newly opened examination, and what is wrong with it.
 #[derive(Clone, Copy)]
@@ -97,9 +97,32 @@ fn first_refusals() -> Result<(), Fail> {
     };
     refused(bad, 7, Adds::ExaminationLayer)?;
     refused(Case { places: 1, ..bad }, 6, Adds::ExaminationLayer)?;
-    refused(Case { places: 1, added: 0, ..bad }, 8, Adds::ExaminationLayer)?;
-    refused(Case { class: 15, word: 1, processor: 2, ..FIT }, 9, Adds::ExaminationLayer)?;
-    refused_without_room(Case { processor: 2, ..FIT }, 2)?;
+    refused(
+        Case {
+            places: 1,
+            added: 0,
+            ..bad
+        },
+        8,
+        Adds::ExaminationLayer,
+    )?;
+    refused(
+        Case {
+            class: 15,
+            word: 1,
+            processor: 2,
+            ..FIT
+        },
+        9,
+        Adds::ExaminationLayer,
+    )?;
+    refused_without_room(
+        Case {
+            processor: 2,
+            ..FIT
+        },
+        2,
+    )?;
     refused_without_room(FIT, 4)
 }
 

@@ -19,6 +19,6 @@ returns g c =
       outcome = search needs;
       exact = subst (λ (n : ℕ). Told (run-listed (g .W·Word .value) (c .examine-verdict .last .log) n) (c .examine-verdict .result)) (sym (c .count-admitted .ensures)) (c .examine-verdict .ensures .exact);
       complete = λ none.
-        subst (λ (n : ℕ). Listed (operations-in items) (take n (c .examine-verdict .last .log)) (c .examine-verdict .result)) (sym (c .count-admitted .ensures))
-        (c .examine-verdict .ensures .complete (length-map (meaning below .processors) (place (c .new-pile .result .list .entries)) ∙ ap held is ∙ none));
+          subst (λ (n : ℕ). Listed (operations-in items) (take n (c .examine-verdict .last .log)) (c .examine-verdict .result)) (sym (c .count-admitted .ensures))
+          (c .examine-verdict .ensures .complete (length-map (meaning below .processors) (place (c .new-pile .result .list .entries)) ∙ ap held is ∙ none));
     }

@@ -1,12 +1,14 @@
 use Prim.Native.Nat.{_+_, _*_, _≤_}
-use mathlib.Core.Path.{_≡_, sym, ap, _∙_}
+use mathlib.Core.Path.{_≡_, refl, sym, ap, _∙_}
 use native.Mathlib.Omega.{arith}
 use denote.Ref.{now}
 use lib.ListN.{length, set, length-set}
 use lib.Seq.{getD-set-same, getD-set-other}
 use Rattle.keepers.specs.Adding.{answered}
+use Rattle.keepers.specs.Prefix.{Same}
+use Rattle.keepers.proofs.Prefix.{set-same}
 use Rattle.arrow.specs.Arrows.{processor-of, arrows}
-use Rattle.arrow.proofs.Meanings.{Same, checked, admitted-same, admitted-more, set-same, added-is}
+use Rattle.arrow.proofs.Meanings.{checked, admitted-same, admitted-more, added-is}
 use Rattle.arrow.proofs.keeper.ArrowKeeps.add.Needs as need
 
 pub index-self-place : need.index-self-place
@@ -30,7 +32,7 @@ ghost-self-2 c =
     let zs = set xs (2 * n) (c .args .processor) in
     let ys = set zs (2 * n + 1) (c .stored-giver .result) in
     let within : 2 * s .capacity ≤ length ys = omega (arith, s .within, length-set xs (2 * n) (c .args .processor), length-set zs (2 * n + 1) (c .stored-giver .result)) in
-    let same : Same xs ys (2 * n) = λ i b. set-same zs (2 * n + 1) (c .stored-giver .result) (2 * n) (omega arith) i b ∙ set-same xs (2 * n) (c .args .processor) (2 * n) (omega arith) i b in
+    let same : Same xs ys (2 * n) = set-same xs zs (2 * n + 1) (c .stored-giver .result) (2 * n) (omega arith) (set-same xs xs (2 * n) (c .args .processor) (2 * n) (omega arith) (λ i b. refl)) in
     let named : processor-of ys n ≡ c .args .processor = getD-set-other zs (2 * n + 1) (2 * n) (c .stored-giver .result) 0 (omega arith) ∙ getD-set-same xs (2 * n) (c .args .processor) 0 (omega (arith, p .3, s .within)) in
     (s .few, (s .fits, (within, (s .marked, (omega (arith, p .3), (admitted-more ys (s .processors) n (admitted-same xs ys (s .processors) n same (s .admitted)) (omega (arith, named, p .1)), (s .clear, tt)))))))
 

@@ -2,7 +2,8 @@ use Prim.Native.Nat.{_+_, _<_}
 use mathlib.Core.Path.{sym, ap, subst}
 use native.Mathlib.Omega.{arith}
 use denote.Ref.{now}
-use Rattle.clock.specs.Rows.{Among, count-from}
+use Rattle.keepers.specs.Adding.{Among}
+use Rattle.clock.specs.Rows.{count-from}
 use Rattle.clock.proofs.Places.{place}
 use Rattle.clock.proofs.keeper.ClockKeeper.count_from.Needs as need
 

@@ -1,14 +1,16 @@
 use Prim.Native.Nat.{_+_, _*_, _<_}
-use mathlib.Core.Path.{_≡_, sym, ap, subst, _∙_}
+use mathlib.Core.Path.{_≡_, refl, sym, ap, subst, _∙_}
 use mathlib.Core.Logic.{_≢_}
 use native.Mathlib.Omega.{arith}
 use borrow.Author.Count.{below-more}
 use denote.Ref.{now}
 use lib.ListN.{length, length-set}
 use lib.Seq.{getD-set-same, getD-set-other}
-use Rattle.clock.specs.Rows.{Sound, Among, new-count, count-from}
+use Rattle.keepers.specs.Adding.{Among}
+use Rattle.keepers.proofs.Prefix.{set-same}
+use Rattle.clock.specs.Rows.{Sound, new-count, count-from}
 use Rattle.clock.proofs.Places.{place}
-use Rattle.clock.proofs.Clocks.{kept-sound, from-small, from-same, set-same, one-more}
+use Rattle.clock.proofs.Clocks.{kept-sound, from-small, from-same, one-more}
 use Rattle.clock.proofs.keeper.ClockKeeper.write_row.Needs as need
 use Rattle.clock.proofs.keeper.ClockKeeper.write_row.Needs.{then-q-processor, else-q-processor}
 
@@ -37,7 +39,7 @@ ghost-self c =
     let s = c .loop-q .self in
     let i = c .loop-q .inv in
     let e : s .count * (s .processors + 1) ≡ c .args .self .now .count * (c .args .self .now .processors + 1) = cc in
-    let k = kept-sound (now (s .numbers)) _ (s .processors) (s .count) (set-same (now (s .numbers)) (c .args .self .now .count * (c .args .self .now .processors + 1) + (c .loop-q .q + 1)) (c .if-q-processor .self) _ (omega arith)) (s .admitted, s .counted, s .most, s .small) in
+    let k = kept-sound (now (s .numbers)) _ (s .processors) (s .count) (set-same (now (s .numbers)) (now (s .numbers)) (c .args .self .now .count * (c .args .self .now .processors + 1) + (c .loop-q .q + 1)) (c .if-q-processor .self) _ (omega arith) (λ j h. refl)) (s .admitted, s .counted, s .most, s .small) in
     (s .few, (s .fits, (simp length-set (s .within), (s .filled, (k .0, (k .1, (k .2, (k .3, tt))))))))
 
 pub loop-q-again : need.loop-q-again
@@ -62,7 +64,7 @@ loop-q-again c =
       i .0,
       i .1,
       i .2,
-      λ j h. let ne : j ≢ at = omega arith in getD-set-other (now (s .numbers)) at j (c .if-q-processor .self) 0 ne ∙ i .3 j h,
+      set-same (now (a .numbers)) (now (s .numbers)) at (c .if-q-processor .self) (a .count * (a .processors + 1)) (omega arith) (i .3),
       below-more _ _
           (λ q h. let ne : a .count * (a .processors + 1) + (q + 1) ≢ at = omega arith in getD-set-other (now (s .numbers)) at _ (c .if-q-processor .self) 0 ne ∙ i .4 q h)
           (getD-set-same (now (s .numbers)) at (c .if-q-processor .self) 0 inside ∙ value),
@@ -81,7 +83,7 @@ ghost-self-2 c =
     let s = c .loop-q .self in
     let i = c .loop-q .inv in
     let e : s .count * (s .processors + 1) ≡ c .args .self .now .count * (c .args .self .now .processors + 1) = cc in
-    let k = kept-sound (now (s .numbers)) _ (s .processors) (s .count) (set-same (now (s .numbers)) (c .args .self .now .count * (c .args .self .now .processors + 1)) (c .args .processor) _ (omega arith)) (s .admitted, s .counted, s .most, s .small) in
+    let k = kept-sound (now (s .numbers)) _ (s .processors) (s .count) (set-same (now (s .numbers)) (now (s .numbers)) (c .args .self .now .count * (c .args .self .now .processors + 1)) (c .args .processor) _ (omega arith) (λ j h. refl)) (s .admitted, s .counted, s .most, s .small) in
     (s .few, (s .fits, (simp length-set (s .within), (s .filled, (k .0, (k .1, (k .2, (k .3, tt))))))))
 
 pub returns : need.returns
@@ -95,7 +97,7 @@ returns c =
     let inside : at < length (now (s .numbers)) = omega (arith, place (s .count) (s .capacity) (s .capacity) (s .processors + 1) 0 _ room (omega arith) (s .within) (omega arith)) in
     record {
       size = (i .0, (i .1, i .2));
-      kept = λ j h. let ne : j ≢ at = omega arith in getD-set-other (now (s .numbers)) at j (c .args .processor) 0 ne ∙ i .3 j h;
+      kept = set-same (now (a .numbers)) (now (s .numbers)) at (c .args .processor) at (omega arith) (i .3);
       named = getD-set-same (now (s .numbers)) at (c .args .processor) 0 inside;
       joined = λ q h. let ne : at + (q + 1) ≢ at = omega arith in getD-set-other (now (s .numbers)) at _ (c .args .processor) 0 ne ∙ i .4 q (omega (arith, c .loop-q-test .left));
     }

@@ -1,7 +1,8 @@
 use mathlib.Core.Path.{_≡_}
 use Prim.Native.Nat.{ℕ, _<_, _*_, _+_}
 use denote.Ref.{now}
-use Rattle.clock.specs.Rows.{count-of, new-count, Same}
+use Rattle.keepers.specs.Prefix.{Same}
+use Rattle.clock.specs.Rows.{count-of, new-count}
 use Rattle.clock.proofs.keeper.ClockKeeper.write_row.Given as given
 
 abbrev pub Inv-loop-q : given.InvT-loop-q

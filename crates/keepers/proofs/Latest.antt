@@ -7,12 +7,7 @@ use lib.Dec.{eqb}
 use Rattle.std.specs.declared.option.Option.{Option}
 use Rattle.std.specs.declared.option.Option.the-variants.{Some, None}
 use Rattle.std.proofs.shelf.Tests.{eq-eqb, ne-eqb}
-use Rattle.keepers.specs.Adding.{latest-of}
-
--- an operation, if there is one, is among the first n
-abbrev pub Among : Option ℕ → ℕ → Type 0
-Among None n = Unit {0}
-Among (Some k) n = k < n
+use Rattle.keepers.specs.Adding.{latest-of, Among}
 
 among-more : (o : Option ℕ) (n : ℕ) → Among o n → Among o (suc n)
 among-more None n h = h
@@ -23,12 +18,17 @@ latest-among f p zero = tt
 latest-among f p (suc n) =
     elim (eqb (f n) p) as (λ b. Among (cond b (Some n) (latest-of f p n)) (suc n)) [ true ↦ omega arith | false ↦ among-more (latest-of f p n) n (latest-among f p n) ]
 
-pub latest-same : (f g : ℕ → ℕ) (p n : ℕ) → ((k : ℕ) → k < n → f k ≡ g k) → latest-of f p n ≡ latest-of g p n
-latest-same f g p zero h = refl
-latest-same f g p (suc n) h =
+-- of the first n operations, those that are p's by f are q's by g
+pub latest-like : (f g : ℕ → ℕ) (p q n : ℕ) → ((k : ℕ) → k < n → eqb (f k) p ≡ eqb (g k) q) → latest-of f p n ≡ latest-of g q n
+latest-like f g p q zero h = refl
+latest-like f g p q (suc n) h =
     let e = h n (omega arith) in
-    let r = latest-same f g p n (λ k b. h k (omega arith)) in
+    let r = latest-like f g p q n (λ k b. h k (omega arith)) in
     cc
+
+-- the first n operations are of the same processors
+pub latest-same : (f g : ℕ → ℕ) (p n : ℕ) → ((k : ℕ) → k < n → f k ≡ g k) → latest-of f p n ≡ latest-of g p n
+latest-same f g p n h = latest-like f g p p n (λ k b. ap (λ z. eqb z p) (h k b))
 
 -- operation n is p's, or not
 pub latest-here : (f : ℕ → ℕ) (p n : ℕ) → f n ≡ p → latest-of f p (suc n) ≡ Some n
