@@ -1,5 +1,5 @@
 -- Two keepers that were given the same operations hold the same ones in the same order. Assumes nothing.
-use Prim.Native.Nat.{ℕ, _+_, _<_, _≤_}
+use Prim.Native.Nat.{ℕ, _+_, _-_, _<_, _≤_}
 use native.Mathlib.Omega.{arith}
 use mathlib.Core.Bool.{Bool, true, false, cond, not, _&&_, _||_}
 use mathlib.Core.List.{List, [], _∷_, _++_}
@@ -21,7 +21,7 @@ use Rattle.keepers.specs.Meaning.{Meaning, held}
 use Rattle.keepers.specs.Refusals.{keeper-refusal}
 use Rattle.keepers.proofs.Accepting.{accepted, given-among}
 use Rattle.keepers.proofs.Latest.{latest-among}
-use Rattle.agreement.specs.Agreement.{Addition, answers, after-all, GivenTheSame, same-answer}
+use Rattle.agreement.specs.Agreement.{Addition, answers, after-all, GivenTheSame, MadeAlike, same-answer}
 
 -- the same operations, in the same order
 pub record Alike (m m′ : Meaning) : Type 0 where
@@ -108,3 +108,48 @@ given-alike m m′ g a b =
     all-alike (g .start) (g .start′) (empty-alike (g .start) (g .start′) (g .empty) (g .empty′)) (g .additions) (g .alike) in
     let here : Alike m m′ = subst (λ x. Alike x m′) (g .leads) (subst (Alike (after-all (g .start) (g .additions))) (g .leads′) alike) in
     ap (λ r. same-answer r (order m′ a b)) (alike-order m m′ here a b) ∙ same-itself (order m′ a b)
+
+-- keepers that were made alike answer additions alike
+record Same (m m′ : Meaning) : Type 0 where
+  alike : Alike m m′
+  admits : (p : ℕ) → m .admits p ≡ m′ .admits p
+  room : m .room ≡ m′ .room
+
+same-given : (m m′ : Meaning) → held m ≡ held m′ → (o : Option ℕ) → giver-held m o ≡ giver-held m′ o
+same-given m m′ e None = refl
+same-given m m′ e (Some g) = ap (ltb g) e
+
+same-addition : (m m′ : Meaning) → Same m m′ → (p : ℕ) (giver : Option ℕ) → addition m p giver ≡ addition m′ p giver
+same-addition m m′ s p giver =
+    let count : held m ≡ held m′ = ap length (s .alike .processors) in
+    let one : m .admits p ≡ m′ .admits p = s .admits p in
+    let two : giver-held m giver ≡ giver-held m′ giver = same-given m m′ count giver in
+    let three : m .room ≡ m′ .room = s .room in
+    ap (λ t. cond t (cond (giver-held m giver) (cond (ltb 0 (m .room)) (Ok (held m)) (Err NoRoom)) (Err GiverNotHeld)) (Err NotAdmitted)) one
+    ∙ ap (λ t. cond (m′ .admits p) (cond t (cond (ltb 0 (m .room)) (Ok (held m)) (Err NoRoom)) (Err GiverNotHeld)) (Err NotAdmitted)) two
+    ∙ ap₂ (λ r n. cond (m′ .admits p) (cond (giver-held m′ giver) (cond (ltb 0 r) (Ok n) (Err NoRoom)) (Err GiverNotHeld)) (Err NotAdmitted)) three count
+
+after-same : (m m′ : Meaning) → Same m m′ → (p : ℕ) (giver : Option ℕ) → Same (after-addition m p giver) (after-addition m′ p giver)
+after-same m m′ s p giver = go (addition m p giver) (sym (same-addition m m′ s p giver)) (after-alike m m′ (s .alike) p giver (same-addition m m′ s p giver))
+  where
+    go : (r : Result ℕ KeeperFault) → addition m′ p giver ≡ r → Alike (answered m p giver r) (answered m′ p giver (addition m′ p giver)) → Same (answered m p giver r) (answered m′ p giver (addition m′ p giver))
+    go (Ok k) is alike = subst (λ x. Same (added m p giver) (answered m′ p giver x)) (sym is) (record {
+        alike = subst (λ x. Alike (added m p giver) (answered m′ p giver x)) is alike;
+        admits = s .admits;
+        room = ap (λ n. n - 1) (s .room) })
+    go (Err f) is alike = subst (λ x. Same m (answered m′ p giver x)) (sym is) s
+
+same-answers : (m m′ : Meaning) → Same m m′ → (xs : List Addition) → answers m xs ≡ answers m′ xs
+same-answers m m′ s [] = refl
+same-answers m m′ s (x ∷ xs) = ap₂ (λ r rs. r ∷ rs) (same-addition m m′ s (x .processor) (x .giver)) (same-answers (after-addition m (x .processor) (x .giver)) (after-addition m′ (x .processor) (x .giver)) (after-same m m′ s (x .processor) (x .giver)) xs)
+
+pub made-same : (m m′ : Meaning) → MadeAlike m m′ → GivenTheSame m m′
+made-same m m′ g = record {
+    start = g .start;
+    start′ = g .start′;
+    empty = g .empty;
+    empty′ = g .empty′;
+    additions = g .additions;
+    alike = same-answers (g .start) (g .start′) (record { alike = empty-alike (g .start) (g .start′) (g .empty) (g .empty′); admits = g .admits; room = g .room }) (g .additions);
+    leads = g .leads;
+    leads′ = g .leads′ }

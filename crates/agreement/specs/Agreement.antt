@@ -37,6 +37,18 @@ pub record GivenTheSame (m m′ : Meaning) : Type 0 where
   pub leads : after-all start additions ≡ m
   pub leads′ : after-all start′ additions ≡ m′
 
+-- both started empty, admitting the same processors and with the same room, and were asked to add the same operations
+pub record MadeAlike (m m′ : Meaning) : Type 0 where
+  pub start : Meaning
+  pub start′ : Meaning
+  pub empty : held start ≡ 0
+  pub empty′ : held start′ ≡ 0
+  pub admits : (p : ℕ) → start .admits p ≡ start′ .admits p
+  pub room : start .room ≡ start′ .room
+  pub additions : List Addition
+  pub leads : after-all start additions ≡ m
+  pub leads′ : after-all start′ additions ≡ m′
+
 -- the same yes or no, or the same refusal
 abbrev pub same-answer : Result Bool KeeperFault → Result Bool KeeperFault → Bool
 same-answer (Ok a) (Ok b) = (a && b) || (not a && not b)

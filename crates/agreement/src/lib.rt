@@ -5,7 +5,7 @@ use keepers::KeeperFault;
 use keepers::KeeperFaultPartialEq;
 ghost use mathlib.Core.Bool.{true};
 ghost use mathlib.Core.Path.{_≡_};
-ghost use Rattle.agreement.specs.Agreement.{same-answer, GivenTheSame};
+ghost use Rattle.agreement.specs.Agreement.{same-answer, GivenTheSame, MadeAlike};
 ghost use Rattle.keepers.specs.Asking.{order};
 
 // Asks two keepers whether operation `a` is before operation `b`, and answers whether they say the same.
@@ -14,6 +14,7 @@ pub fn answer_alike<K: Keeper, L: Keeper>(one: &mut K, other: &mut L, a: u16, b:
     ensures one { λ _. ⌜ K·Keeper .meaning (now (one .exit)) ≡ K·Keeper .meaning (now (one .entry)) ⌝ }
     ensures other { λ _. ⌜ L·Keeper .meaning (now (other .exit)) ≡ L·Keeper .meaning (now (other .entry)) ⌝ }
     ensures agree { λ r. ⌜ (GivenTheSame (K·Keeper .meaning (now (one .entry))) (L·Keeper .meaning (now (other .entry))) → r ≡ true) ⌝ }
+    ensures made { λ r. ⌜ (MadeAlike (K·Keeper .meaning (now (one .entry))) (L·Keeper .meaning (now (other .entry))) → r ≡ true) ⌝ }
 {
     let first = one.before(a, b);
     let second = other.before(a, b);

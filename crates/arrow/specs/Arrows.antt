@@ -1,5 +1,5 @@
 -- The numbers and marks of an arrow keeper, and what they mean. Assumes nothing.
-use Prim.Native.Nat.{ℕ, _+_, _*_, _<_, zero, suc}
+use Prim.Native.Nat.{ℕ, _+_, _*_, _/_, _<_, zero, suc, min}
 use mathlib.Core.Bool.{cond}
 use mathlib.Core.List.{List}
 use mathlib.Core.Path.{_≡_}
@@ -7,7 +7,7 @@ use lib.Dec.{ltb, leb}
 use lib.ListN.{length, getD, set}
 use Rattle.std.specs.declared.option.Option.{Option}
 use Rattle.std.specs.declared.option.Option.the-variants.{Some, None}
-use Rattle.keepers.specs.Meaning.{Meaning, empty}
+use Rattle.keepers.specs.Meaning.{Meaning, empty, most-held}
 use Rattle.keepers.specs.Adding.{added}
 
 -- Each operation has two numbers: its processor and its giver.
@@ -24,6 +24,10 @@ giver-of xs k = cond (ltb (getD xs (2 * k + 1) 0) k) (Some (getD xs (2 * k + 1) 
 abbrev pub stored : Option ℕ → ℕ
 stored None = 65535
 stored (Some g) = g
+
+-- how many operations a keeper can hold over so many lent numbers and marks
+abbrev pub arrow-room : ℕ → ℕ → ℕ
+arrow-room numbers marks = min (min most-held (numbers / 2)) marks
 
 -- the meaning of the first n operations, added in turn, out of those that there is space for
 abbrev pub arrows : List ℕ → ℕ → ℕ → ℕ → Meaning

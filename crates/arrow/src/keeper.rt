@@ -3,12 +3,12 @@ use keepers::Keeper;
 use keepers::KeeperFault;
 use keepers::Processors;
 ghost use mathlib.Core.Path.{_≡_};
-ghost use Prim.Native.Nat.{_*_, _/_, _<_, _≤_, min};
+ghost use Prim.Native.Nat.{_*_, _<_, _≤_};
 ghost use lib.ListN.{length};
 ghost use denote.Ref.{now};
 ghost use Rattle.keepers.specs.Meaning.{empty, most-held, most-processors};
 ghost use Rattle.arrow.specs.Bounds.{arrows-bounded, arrows-numbered};
-ghost use Rattle.arrow.specs.Arrows.{Admitted, Clear, arrows};
+ghost use Rattle.arrow.specs.Arrows.{Admitted, Clear, arrows, arrow-room};
 
 // A keeper over lent numbers and lent marks. Operation k has two numbers: its processor and its giver. The marks
 // are of use only while an order question is answered, and are 0 before and after.
@@ -36,7 +36,7 @@ impl<'n, 'm> ArrowKeeper<'n, 'm> {
         numbers: &'n mut [u16],
         marks: &'m mut [u8],
     ) -> ArrowKeeper<'n, 'm>
-        ensures made { λ r. ⌜ arrows (now (r .numbers)) (r .processors) (r .count) (r .capacity) ≡ empty (processors .count) (min (min most-held (length (now (numbers .entry)) / 2)) (length (now (marks .entry)))) ⌝ }
+        ensures made { λ r. ⌜ arrows (now (r .numbers)) (r .processors) (r .count) (r .capacity) ≡ empty (processors .count) (arrow-room (length (now (numbers .entry))) (length (now (marks .entry)))) ⌝ }
         ensures kept { λ r. ⌜ now (r .numbers) ≡ now (numbers .entry) ⌝ }
         ensures cleared { λ r. ⌜ Clear (now (r .marks)) ⌝ }
     {

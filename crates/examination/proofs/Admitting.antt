@@ -23,7 +23,7 @@ use Rattle.laws.specs.Tally.{Tally, noted}
 use Rattle.examination.specs.declared.open.Open.{Open}
 use Rattle.examination.specs.declared.fault.ExamFault.{ExamFault}
 use Rattle.examination.specs.declared.fault.ExamFault.the-variants.{Keeper}
-use Rattle.examination.specs.Admission.{Setting, Exam, exam, tally, checks, giver-of, partner-of, longer, fuller, number-with, unless-refused, admission, grown, after-admission}
+use Rattle.examination.specs.Admission.{Setting, Exam, exam, tally, checks, giver-of, partner-of, events-with, keeper-with, number-with, unless-refused, admission, grown, after-admission}
 use Rattle.examination.proofs.Checking.{Passed, passed}
 
 -- a tally has one operation more
@@ -33,7 +33,7 @@ noted-admitted t (Some a) = add-one (t .admitted)
 
 module _ (G : Setting) (E : Exam) (e : Event) where
   abbrev pub next-exam : Exam
-  next-exam = record { events = longer E e; keeper = fuller G E e; numbers = noted (E .numbers) (partner-of G E e) }
+  next-exam = record { events = events-with E e; keeper = keeper-with G E e; numbers = noted (E .numbers) (partner-of G E e) }
 
   pub record Taken : Type 0 where
     pub passes : Passed (G .start) E e
@@ -125,14 +125,14 @@ module _ {W : Type 0} (value : W → List ℤ) (G : Setting) (xs : List (Operati
           → (partner : Option ℕ) → partner ≡ racing-partner (m₁ .before) (at (events value xs₁)) k → (m₂ : Meaning) → m₂ ≡ m₁ → (o₁ : Open) → tally o₁ ≡ noted (tally o) partner
           → Done xs₁ m₂ o₁ partner
       done m₁ m₁-is xs₁ xs₁-is partner partner-is m₂ m₂-is o₁ o₁-is =
-          let fuller-is : m₁ ≡ fuller G E e = m₁-is ∙ ap (answered m (op .processor) giver) (sym add) ∙ ap (added m (op .processor)) gives in
-          let events-is : events value xs₁ ≡ longer E e = ap (events value) xs₁-is ∙ map-set (event value) xs k op ∙ ap (λ j. set (events value xs) j e) number-is in
+          let fuller-is : m₁ ≡ keeper-with G E e = m₁-is ∙ ap (answered m (op .processor) giver) (sym add) ∙ ap (added m (op .processor)) gives in
+          let events-is : events value xs₁ ≡ events-with E e = ap (events value) xs₁-is ∙ map-set (event value) xs k op ∙ ap (λ j. set (events value xs) j e) number-is in
           let same : partner ≡ partner-of G E e =
           partner-is
           ∙ ap (λ x. racing-partner (x .before) (at (events value xs₁)) k) fuller-is
-          ∙ ap (λ es. racing-partner (fuller G E e .before) (at es) k) events-is
-          ∙ ap (racing-partner (fuller G E e .before) (at (longer E e))) number-is in
-          let keeper-is : m₂ ≡ fuller G E e = m₂-is ∙ fuller-is in
+          ∙ ap (λ es. racing-partner (keeper-with G E e .before) (at es) k) events-is
+          ∙ ap (racing-partner (keeper-with G E e .before) (at (events-with E e))) number-is in
+          let keeper-is : m₂ ≡ keeper-with G E e = m₂-is ∙ fuller-is in
           let numbers-is : tally o₁ ≡ noted (tally o) (partner-of G E e) = o₁-is ∙ ap (noted (tally o)) same in
           let grown-is : exam value xs₁ m₂ o₁ ≡ next-exam G E e = λ i. record { events = events-is i; keeper = keeper-is i; numbers = numbers-is i } in
           record {

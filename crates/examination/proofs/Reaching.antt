@@ -28,7 +28,7 @@ use Rattle.laws.proofs.Verdicts.{partner-exact, tally-grown, tally-none, tally-
 use Rattle.examination.specs.declared.fault.ExamFault.{ExamFault}
 use Rattle.examination.specs.declared.fault.ExamFault.the-variants.{Keeper, CountDiffers}
 use Rattle.examination.specs.declared.admission.Admitted.{Admitted}
-use Rattle.examination.specs.Admission.{Setting, Exam, partner-of, longer, fuller, admission, after-admission}
+use Rattle.examination.specs.Admission.{Setting, Exam, partner-of, events-with, keeper-with, admission, after-admission}
 use Rattle.examination.specs.Asking.{from-keeper, order-answer}
 use Rattle.examination.specs.Closing.{Said, race-free, racy, closing, pair-or-none}
 use Rattle.examination.specs.Runs.{Call, admit, ask, after, run, Opened, Reached, history, Ordered, OrderExact, Partnered, AdmissionExact, Holds, VerdictExact}
@@ -52,9 +52,9 @@ module _ (G : Setting) (E : Exam) (e : Event) (place : E .numbers .admitted < le
 
   -- the run with the operation
   abbrev grown-run : History
-  grown-run = record { size = suc n; op = at (longer E e); pairs = G .pairs }
+  grown-run = record { size = suc n; op = at (events-with E e); pairs = G .pairs }
 
-  newest : at (longer E e) n ≡ e
+  newest : at (events-with E e) n ≡ e
   newest = getD-set-same (E .events) n e nothing place
 
   grows : Grows (history G E) grown-run
@@ -64,21 +64,21 @@ module _ (G : Setting) (E : Exam) (e : Event) (place : E .numbers .admitted < le
     rule = λ c d. refl;
   }
 
-  next-keeps : Keeps grown-run (fuller G E e)
+  next-keeps : Keeps grown-run (keeper-with G E e)
   next-keeps = subst (λ x. Keeps grown-run (kept.grown (E .keeper) (history G E) x)) newest (grown-keeps (history G E) grown-run (E .keeper) grows (sound .keeps))
 
-  next-tally : noted (E .numbers) (partner-of G E e) ≡ tally-of (fuller G E e .before) (at (longer E e)) (suc n)
+  next-tally : noted (E .numbers) (partner-of G E e) ≡ tally-of (keeper-with G E e .before) (at (events-with E e)) (suc n)
   next-tally =
       ap (λ t. noted t (partner-of G E e)) (sound .numbers)
-      ∙ sym (subst (λ x. tally-of (kept.grown (E .keeper) (history G E) x .before) (at (longer E e)) (suc n) ≡ noted (tally-of (E .keeper .before) (at (E .events)) n) (racing-partner (kept.grown (E .keeper) (history G E) x .before) (at (longer E e)) n)) newest (tally-grown (history G E) grown-run (E .keeper) grows (sound .keeps)))
+      ∙ sym (subst (λ x. tally-of (kept.grown (E .keeper) (history G E) x .before) (at (events-with E e)) (suc n) ≡ noted (tally-of (E .keeper .before) (at (E .events)) n) (racing-partner (kept.grown (E .keeper) (history G E) x .before) (at (events-with E e)) n)) newest (tally-grown (history G E) grown-run (E .keeper) grows (sound .keeps)))
 
   next-size : suc n ≡ noted (E .numbers) (partner-of G E e) .admitted
   next-size = sym (noted-admitted (E .numbers) (partner-of G E e))
 
   pub next-sound : Sound G (next-exam G E e)
   next-sound = record {
-    keeps = subst (λ k. Keeps (record { size = k; op = at (longer E e); pairs = G .pairs }) (fuller G E e)) next-size next-keeps;
-    numbers = next-tally ∙ ap (tally-of (fuller G E e .before) (at (longer E e))) next-size;
+    keeps = subst (λ k. Keeps (record { size = k; op = at (events-with E e); pairs = G .pairs }) (keeper-with G E e)) next-size next-keeps;
+    numbers = next-tally ∙ ap (tally-of (keeper-with G E e .before) (at (events-with E e))) next-size;
   }
 
 admission-sound : (G : Setting) (E : Exam) (e : Event) → Sound G E → Sound G (after-admission G E e)
@@ -136,7 +136,7 @@ admission-exact G E e r is reached =
     subst (λ x. Partnered (history G x) r) (sym (t .after))
     (subst (Partnered (history G (next-exam G E e))) (sym (is ∙ t .answer)) (
       noted-admitted (E .numbers) (partner-of G E e),
-      partner-exact (history G (next-exam G E e)) (fuller G E e) (next-sound G E e (t .passes .place) s .keeps) (E .numbers .admitted) (omega (arith, noted-admitted (E .numbers) (partner-of G E e))),
+      partner-exact (history G (next-exam G E e)) (keeper-with G E e) (next-sound G E e (t .passes .place) s .keeps) (E .numbers .admitted) (omega (arith, noted-admitted (E .numbers) (partner-of G E e))),
     )))
     (λ (t : Refused G E e). subst (Partnered (history G (after-admission G E e))) (sym (is ∙ t .answer)) tt)
     (cases-admission G E e)

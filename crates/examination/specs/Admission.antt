@@ -76,15 +76,15 @@ abbrev pub giver-of : Setting → Exam → Event → Option ℕ
 giver-of G E e = release-for (G .pairs) (at (E .events)) (E .numbers .admitted) e
 
 -- the record and the keeper with the operation
-abbrev pub longer : Exam → Event → List Event
-longer E e = set (E .events) (E .numbers .admitted) e
+abbrev pub events-with : Exam → Event → List Event
+events-with E e = set (E .events) (E .numbers .admitted) e
 
-abbrev pub fuller : Setting → Exam → Event → Meaning
-fuller G E e = added (E .keeper) (e .processor) (giver-of G E e)
+abbrev pub keeper-with : Setting → Exam → Event → Meaning
+keeper-with G E e = added (E .keeper) (e .processor) (giver-of G E e)
 
 -- its racing partner by the keeper's meaning
 abbrev pub partner-of : Setting → Exam → Event → Option ℕ
-partner-of G E e = racing-partner (fuller G E e .before) (at (longer E e)) (E .numbers .admitted)
+partner-of G E e = racing-partner (keeper-with G E e .before) (at (events-with E e)) (E .numbers .admitted)
 
 -- the answer, once the keeper has answered
 abbrev pub number-with : Option ℕ → Result ℕ KeeperFault → Result Admitted ExamFault
@@ -101,7 +101,7 @@ admission G E e = unless-refused (checks (G .start) E e) (number-with (partner-o
 
 -- what it makes of the record, the keeper and the numbers: a refusal changes nothing
 abbrev pub grown : Setting → Exam → Event → Result Admitted ExamFault → Exam
-grown G E e (Ok a) = record { events = longer E e; keeper = fuller G E e; numbers = noted (E .numbers) (a .partner) }
+grown G E e (Ok a) = record { events = events-with E e; keeper = keeper-with G E e; numbers = noted (E .numbers) (a .partner) }
 grown G E e (Err f) = E
 
 abbrev pub after-admission : Setting → Exam → Event → Exam

@@ -23,7 +23,7 @@ use Rattle.examination.specs.declared.admission.Admitted.{Admitted}
 use Rattle.examination.specs.declared.fault.ExamFault.{ExamFault}
 use Rattle.examination.specs.declared.fault.ExamFault.the-variants.{CountDiffers}
 use Rattle.examination.specs.declared.open.Open.{Open}
-use Rattle.examination.specs.Admission.{Setting, Exam, tally, opening, admission, after-admission, fuller, partner-of}
+use Rattle.examination.specs.Admission.{Setting, Exam, tally, opening, admission, after-admission, keeper-with, partner-of}
 use Rattle.examination.specs.Closing.{Said, closing}
 use Rattle.examination.specs.Runs.{Call, admit, after, run, Reached, history, Holds, VerdictExact}
 use Rattle.examination.proofs.Admitting.{Taken, Refused, cases-admission, noted-admitted}
@@ -50,7 +50,7 @@ module _ {W : Type 0} (value : W → List ℤ) (G : Setting) where
   with-reached s o a is r = ⊎-elim
       (λ (t : Taken G (exam-of value s) (event value o)).
       let step : after-admission G (exam-of value s) (event value o) ≡ exam-of value (with-operation value G s o) =
-      t .after ∙ ap (λ es. record { events = es; keeper = fuller G (exam-of value s) (event value o); numbers = noted (s .numbers) (partner-of G (exam-of value s) (event value o)) }) (sym (map-set (event value) (s .log) (s .numbers .admitted) o)) in
+      t .after ∙ ap (λ es. record { events = es; keeper = keeper-with G (exam-of value s) (event value o); numbers = noted (s .numbers) (partner-of G (exam-of value s) (event value o)) }) (sym (map-set (event value) (s .log) (s .numbers .admitted) o)) in
       subst (Reached G) step (reached-more G (exam-of value s) (admit (event value o)) r))
       (λ (t : Refused G (exam-of value s) (event value o)). absurd (let q = sym is ∙ t .answer in let z : _≡_ {A = ℕ} 0 1 = cc in omega arith))
       (cases-admission G (exam-of value s) (event value o))

@@ -19,7 +19,7 @@ use Rattle.keepers.specs.Meaning.{Meaning}
 use Rattle.examination.specs.declared.admission.Admitted.{Admitted}
 use Rattle.examination.specs.declared.fault.ExamFault.{ExamFault}
 use Rattle.examination.specs.declared.open.Open.{Open}
-use Rattle.examination.specs.Admission.{Setting, Exam, exam, tally, admission, after-admission, grown, fuller, partner-of, recorded}
+use Rattle.examination.specs.Admission.{Setting, Exam, exam, tally, admission, after-admission, grown, keeper-with, partner-of, recorded}
 use Rattle.examination.proofs.Admitting.{Taken, Refused, cases-admission, next-exam}
 use Rattle.record_file.specs.declared.fault.FileFault.{FileFault}
 use Rattle.record_file.specs.declared.fault.FileFault.the-variants.{Record, Section as UnfitSection}

@@ -13,7 +13,7 @@ use Rattle.keepers.specs.Meaning.{Meaning}
 use Rattle.laws.specs.Tally.{Tally, noted}
 use Rattle.examination.specs.declared.admission.Admitted.{Admitted}
 use Rattle.examination.specs.declared.fault.ExamFault.{ExamFault}
-use Rattle.examination.specs.Admission.{Setting, Exam, admission, fuller, partner-of}
+use Rattle.examination.specs.Admission.{Setting, Exam, admission, keeper-with, partner-of}
 use Rattle.record_file.specs.declared.fault.FileFault.{FileFault}
 use Rattle.record_file.specs.declared.fault.FileFault.the-variants.{Record}
 use Rattle.record_file.specs.Records.{Item, operation, stop}
@@ -33,7 +33,7 @@ exam-of value s = record { events = events value (s .log); keeper = s .keeper; n
 abbrev pub with-operation : {W : Type 0} → (W → List ℤ) → Setting → Reading W → Operation W → Reading W
 with-operation value G s o = record {
   log = set (s .log) (s .numbers .admitted) o;
-  keeper = fuller G (exam-of value s) (event value o);
+  keeper = keeper-with G (exam-of value s) (event value o);
   numbers = noted (s .numbers) (partner-of G (exam-of value s) (event value o));
   partners = set (s .partners) (s .numbers .admitted) (partner-of G (exam-of value s) (event value o));
 }

@@ -7,6 +7,7 @@ use Rattle.std.specs.declared.option.Option.the-variants.{Some, None}
 use Rattle.std.specs.declared.result.Result.the-variants.{Ok, Err}
 use Rattle.operations.specs.declared.kind.Kind.the-variants.{DataRead, DataWrite}
 use Rattle.clock.specs.Rows.{clock-room}
+use Rattle.arrow.specs.Arrows.{arrow-room}
 use Rattle.examination.specs.declared.fault.ExamFault.the-variants.{WordDiffers}
 use Rattle.examination.specs.Closing.{race-free, racy}
 use Rattle.examination.specs.Refusals.{exam-refusal}
@@ -30,3 +31,6 @@ pub record Rows : Type 0 where
   pub clock-room-3 : clock-room 2 3 ≡ 1
   pub clock-room-8 : clock-room 2 8 ≡ 2
   pub clock-room-12291 : clock-room 2 12291 ≡ 4096
+  pub arrow-room-numbers : arrow-room 7 8 ≡ 3
+  pub arrow-room-marks : arrow-room 9 2 ≡ 2
+  pub arrow-room-most : arrow-room 9000 5000 ≡ 4096

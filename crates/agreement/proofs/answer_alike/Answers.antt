@@ -1,7 +1,7 @@
 use mathlib.Core.Path.{_≡_, ap₂, _∙_}
 use Rattle.keepers.specs.Asking.{order}
 use Rattle.agreement.specs.Agreement.{same-answer}
-use Rattle.agreement.proofs.Alike.{given-alike}
+use Rattle.agreement.proofs.Alike.{given-alike, made-same}
 use Rattle.agreement.proofs.answer_alike.Needs as need
 
 pub returns : need.returns
@@ -14,4 +14,5 @@ returns g c =
       one = c .before-first .ensures .after;
       other = c .before-second .ensures .after;
       agree = λ given. is ∙ given-alike m m′ given (c .args .a) (c .args .b);
+      made = λ alike. is ∙ given-alike m m′ (made-same m m′ alike) (c .args .a) (c .args .b);
     }
