@@ -134,9 +134,10 @@ after-same m m′ s p giver = go (addition m p giver) (sym (same-addition m m′
   where
     go : (r : Result ℕ KeeperFault) → addition m′ p giver ≡ r → Alike (answered m p giver r) (answered m′ p giver (addition m′ p giver)) → Same (answered m p giver r) (answered m′ p giver (addition m′ p giver))
     go (Ok k) is alike = subst (λ x. Same (added m p giver) (answered m′ p giver x)) (sym is) (record {
-        alike = subst (λ x. Alike (added m p giver) (answered m′ p giver x)) is alike;
-        admits = s .admits;
-        room = ap (λ n. n - 1) (s .room) })
+      alike = subst (λ x. Alike (added m p giver) (answered m′ p giver x)) is alike;
+      admits = s .admits;
+      room = ap (λ n. n - 1) (s .room);
+    })
     go (Err f) is alike = subst (λ x. Same m (answered m′ p giver x)) (sym is) s
 
 same-answers : (m m′ : Meaning) → Same m m′ → (xs : List Addition) → answers m xs ≡ answers m′ xs
@@ -145,11 +146,12 @@ same-answers m m′ s (x ∷ xs) = ap₂ (λ r rs. r ∷ rs) (same-addition m m�
 
 pub made-same : (m m′ : Meaning) → MadeAlike m m′ → GivenTheSame m m′
 made-same m m′ g = record {
-    start = g .start;
-    start′ = g .start′;
-    empty = g .empty;
-    empty′ = g .empty′;
-    additions = g .additions;
-    alike = same-answers (g .start) (g .start′) (record { alike = empty-alike (g .start) (g .start′) (g .empty) (g .empty′); admits = g .admits; room = g .room }) (g .additions);
-    leads = g .leads;
-    leads′ = g .leads′ }
+  start = g .start;
+  start′ = g .start′;
+  empty = g .empty;
+  empty′ = g .empty′;
+  additions = g .additions;
+  alike = same-answers (g .start) (g .start′) (record { alike = empty-alike (g .start) (g .start′) (g .empty) (g .empty′); admits = g .admits; room = g .room }) (g .additions);
+  leads = g .leads;
+  leads′ = g .leads′;
+}

@@ -7,7 +7,7 @@ use mathlib.Core.Logic.{⊎-elim}
 use mathlib.Core.Path.{_≡_, refl, subst}
 use lib.Dec.{eqb}
 use Rattle.std.proofs.shelf.Tests.{and-parts, eqb-true, cases-lt}
-use Rattle.keepers.specs.Renumbering.{times, Once}
+use Rattle.layers.specs.Renumbering.{times, Once}
 use Rattle.hbclock.specs.Pile.{mirrored}
 
 -- a test that computes, and what it shows

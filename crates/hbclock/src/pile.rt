@@ -1,10 +1,10 @@
 use examination::Verdict;
-use keepers::Allowance;
-use keepers::AllowanceKeeper;
 use keepers::Keeper;
-use keepers::Renumber;
-use keepers::RenumberKeeper;
-use keepers::RenumberList;
+use layers::Allowance;
+use layers::AllowanceKeeper;
+use layers::Renumber;
+use layers::RenumberKeeper;
+use layers::RenumberList;
 use operations::Operation;
 use operations::StepPairing;
 use operations::StepRule;

@@ -3,6 +3,4 @@ pub mod Refusals
 pub mod Made
 pub mod Adding
 pub mod Asking
-pub mod Renumbering
-pub mod Layers
 pub mod Prefix

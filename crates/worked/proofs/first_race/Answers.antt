@@ -22,8 +22,8 @@ returns c = record {
     clock-room-3 = refl;
     clock-room-8 = refl;
     clock-room-12291 = refl;
-        arrow-room-numbers = refl;
-        arrow-room-marks = refl;
-        arrow-room-most = refl;
+    arrow-room-numbers = refl;
+    arrow-room-marks = refl;
+    arrow-room-most = refl;
   };
 }

@@ -3,7 +3,7 @@ use mathlib.Core.Path.{_≡_, sym, ap, subst, _∙_}
 use borrow.Author.Needs.{needs}
 use lib.ListN.{take, length-map}
 use Rattle.keepers.specs.Meaning.{held}
-use Rattle.keepers.specs.Renumbering.{place}
+use Rattle.layers.specs.Renumbering.{place}
 use Rattle.reader.specs.Examining.{Told, operations-in, Listed}
 use Rattle.record_file.specs.Records.{file-items}
 use Rattle.hbclock.specs.Pile.{run-listed}

@@ -7,8 +7,8 @@ use mathlib.Core.Path.{_≡_}
 use lib.Dec.{ltb}
 use lib.ListN.{getD, length-map}
 use Rattle.std.proofs.shelf.Tests.{and-parts, ltb-true}
 use Rattle.keepers.specs.Meaning.{Meaning, held, most-held, most-processors}
-use Rattle.keepers.specs.Renumbering.{place}
+use Rattle.layers.specs.Renumbering.{place}
 
 -- an allowance: the room is the smaller of what is left and the room below
 abbrev pub allowed : ℕ → Meaning → Meaning

@@ -9,7 +9,7 @@ use lib.Dec.{eqb, ltb}
 use lib.ListN.{length, getD}
 use Rattle.std.proofs.shelf.Tests.{cases-eq, cases-lt, eq-eqb, ne-eqb, lt-ltb, le-ltb}
 use Rattle.std.proofs.shelf.Ways.{tells}
-use Rattle.keepers.specs.Renumbering.{times, Once, place}
+use Rattle.layers.specs.Renumbering.{times, Once, place}
 
 times-same : (x q : ℕ) (xs : List ℕ) → x ≡ q → times q (x ∷ xs) ≡ 1 + times q xs
 times-same x q xs e = ap (λ t. cond t 1 0 + times q xs) (eq-eqb x q e)

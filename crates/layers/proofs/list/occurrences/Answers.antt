@@ -6,9 +6,9 @@ use borrow.Author.Tests.{eq-eqb, ne-eqb}
 use lib.ListN.{getD, drop}
 use lib.Dec.{eqb}
 use Rattle.std.proofs.shelf.Lists.{at-drop-more, at-drop-all}
-use Rattle.keepers.specs.Renumbering.{times}
-use Rattle.keepers.proofs.list.occurrences.Needs as need
-use Rattle.keepers.proofs.list.occurrences.Needs.{then-x-p, else-x-p}
+use Rattle.layers.specs.Renumbering.{times}
+use Rattle.layers.proofs.list.occurrences.Needs as need
+use Rattle.layers.proofs.list.occurrences.Needs.{then-x-p, else-x-p}
 
 pub loop-x-again : need.loop-x-again
 loop-x-again c =

@@ -1,8 +1,8 @@
-use crate::Keeper;
-use crate::KeeperFault;
-use crate::RenumberList;
+use crate::list::RenumberList;
+use keepers::Keeper;
+use keepers::KeeperFault;
 ghost use mathlib.Core.Path.{_≡_};
-ghost use Rattle.keepers.specs.Layers.{renumbered, renumbered-bounded, renumbered-numbered};
+ghost use Rattle.layers.specs.Layers.{renumbered, renumbered-bounded, renumbered-numbered};
 
 // A keeper under other processor numbers: outer processor p is entry p of the list below.
 #[derive(Drop)]

@@ -13,15 +13,15 @@ use Rattle.std.specs.declared.result.Result.the-variants.{Ok, Err}
 use Rattle.std.proofs.shelf.Lists.{map-push, getD-map}
 use Rattle.std.proofs.shelf.Tests.{lt-ltb, le-ltb, cases-lt}
 use mathlib.Core.Logic.{⊎-elim}
 use Rattle.keepers.specs.Meaning.{Meaning, held, most-processors}
 use Rattle.keepers.specs.Adding.{latest-of, latest, reaches, added, addition, answered, after-addition, giver-held}
 use Rattle.keepers.specs.Asking.{order}
 use Rattle.keepers.specs.declared.fault.KeeperFault.{KeeperFault}
 use Rattle.keepers.specs.declared.fault.KeeperFault.the-variants.{Unfit, NotAdmitted, GiverNotHeld, NoRoom, NotHeld}
-use Rattle.keepers.specs.Renumbering.{Once, place, entry-of}
-use Rattle.keepers.specs.Layers.{renumbered}
-use Rattle.keepers.proofs.Placing.{place-entry, same-test}
+use Rattle.layers.specs.Renumbering.{Once, place, entry-of}
+use Rattle.layers.specs.Layers.{renumbered}
+use Rattle.layers.proofs.Placing.{place-entry, same-test}
 use Rattle.keepers.proofs.Latest.{latest-like}
 
 module _ (xs : List ℕ) (m : Meaning) where
   abbrev R : Meaning

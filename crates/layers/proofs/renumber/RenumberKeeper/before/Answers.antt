@@ -1,7 +1,7 @@
 use mathlib.Core.Path.{sym, ap, _∙_}
-use Rattle.keepers.specs.Layers.{renumbered}
-use Rattle.keepers.proofs.Renaming.{order-same}
-use Rattle.keepers.proofs.renumber.RenumberKeeper.before.Needs as need
+use Rattle.layers.specs.Layers.{renumbered}
+use Rattle.layers.proofs.Renaming.{order-same}
+use Rattle.layers.proofs.renumber.RenumberKeeper.before.Needs as need
 
 pub returns : need.returns
 returns g c =

@@ -1,10 +1,10 @@
-use crate::KeeperFault;
+use keepers::KeeperFault;
 ghost use mathlib.Core.Path.{_≡_};
 ghost use Prim.Native.Nat.{ℕ, _<_, _≤_};
 ghost use lib.ListN.{length, getD};
 ghost use Rattle.std.specs.Iters.{counting};
 ghost use Rattle.std.specs.Results.{Cases};
-ghost use Rattle.keepers.specs.Renumbering.{times, Once, entry-of};
+ghost use Rattle.layers.specs.Renumbering.{times, Once, entry-of};
 
 // A renumber list: entry p is the number by which the keeper below knows the processor that is p outside.
 // Each of 0 to 15 stands in it once.

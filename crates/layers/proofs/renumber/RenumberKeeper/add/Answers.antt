@@ -1,10 +1,10 @@
 use Prim.Native.Nat.{ℕ, _<_}
 use mathlib.Core.Path.{_≡_, sym, ap, _∙_}
 use Rattle.keepers.specs.Meaning.{most-processors}
 use Rattle.keepers.specs.Adding.{addition, after-addition}
-use Rattle.keepers.specs.Layers.{renumbered}
-use Rattle.keepers.proofs.Renaming.{addition-same, after-same, entry-is}
-use Rattle.keepers.proofs.renumber.RenumberKeeper.add.Needs as need
+use Rattle.layers.specs.Layers.{renumbered}
+use Rattle.layers.proofs.Renaming.{addition-same, after-same, entry-is}
+use Rattle.layers.proofs.renumber.RenumberKeeper.add.Needs as need
 
 pub returns : need.returns
 returns g c =

@@ -1,7 +1,7 @@
-use crate::Keeper;
-use crate::KeeperFault;
+use keepers::Keeper;
+use keepers::KeeperFault;
 ghost use mathlib.Core.Path.{_≡_};
-ghost use Rattle.keepers.specs.Layers.{allowed, allowed-bounded};
+ghost use Rattle.layers.specs.Layers.{allowed, allowed-bounded};
 
 // An allowance: a keeper that accepts at most `left` more operations.
 #[derive(Drop)]
