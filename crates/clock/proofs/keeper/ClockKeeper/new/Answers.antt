@@ -4,13 +4,22 @@ use Rattle.keepers.specs.Meaning.{empty, most_held}
 use Rattle.clock.proofs.Meanings.{empty_is}
 use Rattle.clock.proofs.keeper.ClockKeeper.new.Goals as goal
 
-pub invariant-of-result : goal.invariant-of-result
-invariant-of-result c =
+pub invariant_of-result : goal.invariant_of-result
+invariant_of-result c =
     let width = c.count-processors.result + 1 in
     let capacity = c.min-capacity.result in
     let rows = length c.args.numbers.now / width in
     let few : capacity ≤ rows = omega (arith, c.min-capacity.ensures) in
-    (c.count-processors.ensures.range.1, (omega (arith, c.min-capacity.ensures), (omega (arith, mul-le capacity width rows width few (le_refl width), div-add-mod' (length c.args.numbers.now) width), (omega arith, (λ k h. absurd (omega arith), (λ k h. absurd (omega arith), (λ k q h b. absurd (omega arith), (λ k q h b. absurd (omega arith), tt))))))))
+    record {
+      few = c.count-processors.ensures.range.1;
+      fits = omega (arith, c.min-capacity.ensures);
+      within = omega (arith, mul-le capacity width rows width few (le_refl width), div-add-mod' (length c.args.numbers.now) width);
+      filled = omega arith;
+      admitted = λ k h. absurd (omega arith);
+      counted = λ k h. absurd (omega arith);
+      most = λ k q h b. absurd (omega arith);
+      small = λ k q h b. absurd (omega arith);
+    }
 
 pub returns : goal.returns
 returns c =

@@ -7,8 +7,8 @@ use Rattle.clock.proofs.Clocks.{kept_sound, from_small, from_same, one_more}
 use Rattle.clock.proofs.keeper.ClockKeeper.write_row.Goals as goal
 use Rattle.clock.proofs.keeper.ClockKeeper.write_row.Goals.{then-q-processor, else-q-processor}
 
-pub overflow-add-self : goal.overflow-add-self
-overflow-add-self c =
+pub overflow_add-self : goal.overflow_add-self
+overflow_add-self c =
     let s = c.loop-q.self in
     let i = c.loop-q.invariant in
     let ok : Sound s.numbers.now s.processors s.count = (s.admitted, s.counted, s.most, s.small) in
@@ -27,13 +27,13 @@ bounds-self-row c =
     let room : s.count < s.capacity = omega (arith, c.requires.room) in
     omega (arith, place s.count s.capacity s.capacity (s.processors + 1) (c.loop-q.q + 1) _ room (omega arith) s.within (omega (arith, c.loop-q-test.true)))
 
-pub invariant-of-self : goal.invariant-of-self
-invariant-of-self c =
+pub invariant_of-self : goal.invariant_of-self
+invariant_of-self c =
     let s = c.loop-q.self in
     let i = c.loop-q.invariant in
     let e : s.count * (s.processors + 1) ≡ c.args.self.now.count * (c.args.self.now.processors + 1) = cc in
     let k = kept_sound s.numbers.now _ s.processors s.count (set_same s.numbers.now s.numbers.now (c.args.self.now.count * (c.args.self.now.processors + 1) + (c.loop-q.q + 1)) c.if-q-processor.self _ (omega arith) (λ j h. refl)) (s.admitted, s.counted, s.most, s.small) in
-    (s.few, (s.fits, (simp length-set s.within, (s.filled, (k.0, (k.1, (k.2, (k.3, tt))))))))
+    record { few = s.few; fits = s.fits; within = simp length-set s.within; filled = s.filled; admitted = k.0; counted = k.1; most = k.2; small = k.3 }
 
 pub loop-q-preserved : goal.loop-q-preserved
 loop-q-preserved c =
@@ -71,13 +71,13 @@ bounds-self-row-2 c =
     let room : s.count < s.capacity = omega (arith, c.requires.room) in
     omega (arith, place s.count s.capacity s.capacity (s.processors + 1) 0 _ room (omega arith) s.within (omega arith))
 
-pub invariant-of-self-2 : goal.invariant-of-self-2
-invariant-of-self-2 c =
+pub invariant_of-self-2 : goal.invariant_of-self-2
+invariant_of-self-2 c =
     let s = c.loop-q.self in
     let i = c.loop-q.invariant in
     let e : s.count * (s.processors + 1) ≡ c.args.self.now.count * (c.args.self.now.processors + 1) = cc in
     let k = kept_sound s.numbers.now _ s.processors s.count (set_same s.numbers.now s.numbers.now (c.args.self.now.count * (c.args.self.now.processors + 1)) c.args.processor _ (omega arith) (λ j h. refl)) (s.admitted, s.counted, s.most, s.small) in
-    (s.few, (s.fits, (simp length-set s.within, (s.filled, (k.0, (k.1, (k.2, (k.3, tt))))))))
+    record { few = s.few; fits = s.fits; within = simp length-set s.within; filled = s.filled; admitted = k.0; counted = k.1; most = k.2; small = k.3 }
 
 pub returns : goal.returns
 returns c =

@@ -16,8 +16,8 @@ write_row-requires c =
       giver = p.2;
     }
 
-pub invariant-of-self : goal.invariant-of-self
-invariant-of-self c =
+pub invariant_of-self : goal.invariant_of-self
+invariant_of-self c =
     let s = c.args.self.now in
     let l = c.write_row.new.self in
     let w = c.write_row.ensures in
@@ -25,7 +25,7 @@ invariant-of-self c =
     let j = joined_at s.numbers.now l.numbers.now s.processors s.count c.args.processor _ c.args.giver c.latest-latest.ensures w.joined in
     let k = next_sound s.numbers.now l.numbers.now s.processors s.count c.args.processor c.args.giver (s.admitted, s.counted, s.most, s.small) p.2 p.1 w.kept w.named j in
     let k' : Sound l.numbers.now l.processors (s.count + 1) = subst (λ z. Sound l.numbers.now z (s.count + 1)) (sym w.size.0) k in
-    (l.few, (l.fits, (l.within, (omega (arith, p.3, w.size.1.1), (k'.0, (k'.1, (k'.2, (k'.3, tt))))))))
+    record { few = l.few; fits = l.fits; within = l.within; filled = omega (arith, p.3, w.size.1.1); admitted = k'.0; counted = k'.1; most = k'.2; small = k'.3 }
 
 pub returns : goal.returns
 returns c =
