@@ -4,9 +4,9 @@ use Rattle.record_file.specs.Directory.{first_unfit, pairs_checked}
 use Rattle.record_file.proofs.Walk.{unfit_next, unfit_here}
 use Rattle.record_file.proofs.pair.check_pairs.Goals as goal
 
-pub returns-in-default : goal.returns-in-default
-returns-in-default c =
-    let none = c.loop-i.invariant ∙ unfit_here c.args.file.now _ _ _ (omega arith) (sym c.in-default.ensures) in
+pub returns-in_default : goal.returns-in_default
+returns-in_default c =
+    let none = c.loop-i.invariant ∙ unfit_here c.args.file.now _ _ _ (omega arith) (sym c.in_default.ensures) in
     ap (λ (n : ℕ). Err (Pair n)) c.pair_place.ensures ∙ sym (ap pairs_checked none)
 
 pub loop-i-preserved : goal.loop-i-preserved
