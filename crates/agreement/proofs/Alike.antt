@@ -1,9 +1,9 @@
 -- Two keepers that were given the same operations hold the same ones in the same order. Assumes nothing.
-use Rattle.std.proofs.Common.{◌≡◌, ℕ, ◌+◌, ◌-◌, ◌<◌, ◌≤◌, Bool, true, false, cond, not, ◌&&◌, ◌||◌, eqb, ltb, List, [], ◌∷◌, ◌++◌, length, get_or, Some, None, Ok, Err, Option, Result, sym, refl, ap, ◌∙◌, subst, ap₂, ⊎_elim, arith}
+use Rattle.std.proofs.Common.{◌≡◌, ℕ, ◌+◌, ◌-◌, ◌<◌, ◌≤◌, Bool, true, false, cond, ◌&&◌, ◌||◌, eqb, ltb, List, [], ◌∷◌, ◌++◌, length, get_or, Some, None, Ok, Err, Option, Result, sym, refl, ap, ◌∙◌, subst, ap₂, ⊎_elim, arith}
 use Rattle.std.proofs.lemmas.List.{length_push}
 use Rattle.std.proofs.lemmas.Bool.{cases_lt, cases_eq, lt-ltb, le-ltb, eq-eqb, ne_eqb}
 use Rattle.keepers.specs.declared.fault.KeeperFault.{KeeperFault}
-use Rattle.keepers.specs.declared.fault.KeeperFault.TheVariants.{Unfit, NotAdmitted, GiverNotHeld, NoRoom, NotHeld}
+use Rattle.keepers.specs.declared.fault.KeeperFault.TheVariants.{NotAdmitted, GiverNotHeld, NoRoom, NotHeld}
 use Rattle.keepers.specs.Adding.{Among, latest_of, latest, reaches, added, addition, answered, after_addition, giver_held}
 use Rattle.keepers.specs.Asking.{order}
 use Rattle.keepers.specs.Meaning.{Meaning, held}

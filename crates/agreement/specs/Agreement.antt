@@ -1,5 +1,5 @@
 -- Keepers that were given the same operations. Assumes nothing.
-use Rattle.std.specs.Prelude.{◌≡◌, ℕ, Bool, true, false, not, ◌&&◌, ◌||◌, List, [], ◌∷◌, Ok, Err, Option, Result, ◌==◌}
+use Rattle.std.specs.Prelude.{◌≡◌, ℕ, Bool, false, not, ◌&&◌, ◌||◌, List, [], ◌∷◌, Ok, Err, Option, Result, ◌==◌}
 use Rattle.keepers.specs.declared.fault.KeeperFault.{KeeperFault}
 use Rattle.keepers.specs.Adding.{addition, after_addition}
 use Rattle.keepers.specs.Meaning.{Meaning, held}

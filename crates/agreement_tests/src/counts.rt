@@ -21,7 +21,7 @@ fn count(processor: u8, kind: Kind, class: u8, location: u16, number: u32) -> Op
 // The matrix has bit 3 in row 2 and no row 4, so the arrow 3-4 is missing. Then 4 and 5 are after none of 0 to 3,
 // and read 5 races with write 0. Operations 3 and 4 share location 9 too, but both synchronize.
 #[test]
-fn relay(rt: HostRuntime) -> Result<(), Fail> {
+fn relay() -> Result<(), Fail> {
     let record = [
         count(0, Kind::DataWrite, 0, 1, 41),
         count(0, Kind::Release, 2, 8, 1),
@@ -43,7 +43,7 @@ fn relay(rt: HostRuntime) -> Result<(), Fail> {
             no(3, 3),
         ],
     };
-    step_gives(&rt, &mut log, &record, chained)?;
+    step_gives(&mut log, &record, chained)?;
     let cut = Expected {
         partners: &[None, None, None, None, None, Some(0)],
         end: End::Racy {
@@ -60,7 +60,7 @@ fn relay(rt: HostRuntime) -> Result<(), Fail> {
             yes(4, 5),
         ],
     };
-    matrix_gives(&rt, &[0, 0, 8], &mut log, &record, cut)
+    matrix_gives(&[0, 0, 8], &mut log, &record, cut)
 }
 
 // A release that a synchronization write hides, though it writes the same word.
@@ -69,7 +69,7 @@ fn relay(rt: HostRuntime) -> Result<(), Fail> {
 // too, no arrow leads to it, under any rule, and read 4 races with write 0. Operation 5 is no acquire, and is after 0
 // and 1 as the next of processor 0. Only 0 and 4 are data operations.
 #[test]
-fn hidden_release(rt: HostRuntime) -> Result<(), Fail> {
+fn hidden_release() -> Result<(), Fail> {
     let record = [
         count(0, Kind::DataWrite, 0, 2, 9),
         count(0, Kind::Release, 10, 3, 5),
@@ -96,8 +96,8 @@ fn hidden_release(rt: HostRuntime) -> Result<(), Fail> {
             no(2, 5),
         ],
     };
-    step_gives(&rt, &mut log, &record, expected)?;
-    matrix_gives(&rt, &[0xffff; 16], &mut log, &record, expected)
+    step_gives(&mut log, &record, expected)?;
+    matrix_gives(&[0xffff; 16], &mut log, &record, expected)
 }
 
 // Many operations that race, all at one location and with no release: only 0-3 and 4-5 are arrows.
@@ -106,7 +106,7 @@ fn hidden_release(rt: HostRuntime) -> Result<(), Fail> {
 // another processor, so it is the partner. 4 is a synchronization write: it races with data read 3, the latest. 5 is
 // a synchronization read: 4 is before it, 3 does not write, 2 is a data write. So five have a partner, 1 first.
 #[test]
-fn crowd(rt: HostRuntime) -> Result<(), Fail> {
+fn crowd() -> Result<(), Fail> {
     let record = [
         count(0, Kind::DataWrite, 0, 4, 1),
         count(1, Kind::DataRead, 1, 4, 1),
@@ -133,8 +133,8 @@ fn crowd(rt: HostRuntime) -> Result<(), Fail> {
             no(0, 5),
         ],
     };
-    step_gives(&rt, &mut log, &record, expected)?;
-    matrix_gives(&rt, &[0xffff; 16], &mut log, &record, expected)
+    step_gives(&mut log, &record, expected)?;
+    matrix_gives(&[0xffff; 16], &mut log, &record, expected)
 }
 
 // One release that two processors acquire.
@@ -145,7 +145,7 @@ fn crowd(rt: HostRuntime) -> Result<(), Fail> {
 // A matrix with all bits but bit 13 in row 12 leaves out 1-2 and 1-3. Then write 4 races with write 0, and read 5
 // with 0 and 4, the later of which is 4.
 #[test]
-fn fork(rt: HostRuntime) -> Result<(), Fail> {
+fn fork() -> Result<(), Fail> {
     let record = [
         count(8, Kind::DataWrite, 0, 11, 100),
         count(8, Kind::Release, 12, 20, 1),
@@ -172,7 +172,7 @@ fn fork(rt: HostRuntime) -> Result<(), Fail> {
             no(2, 4),
         ],
     };
-    step_gives(&rt, &mut log, &record, paired)?;
+    step_gives(&mut log, &record, paired)?;
     let unpaired = Expected {
         partners: &[None, None, None, None, Some(0), Some(4)],
         end: End::Racy {
@@ -194,5 +194,5 @@ fn fork(rt: HostRuntime) -> Result<(), Fail> {
         0xffff, 0xffff, 0xffff, 0xffff, 0xffff, 0xffff, 0xffff, 0xffff, 0xffff, 0xffff, 0xffff,
         0xffff, 0xdfff,
     ];
-    matrix_gives(&rt, &rows, &mut log, &record, unpaired)
+    matrix_gives(&rows, &mut log, &record, unpaired)
 }

@@ -23,7 +23,7 @@ fn edge(processor: u8, kind: Kind, class: u8, location: u16, word: Edge) -> Oper
 // With 16 empty rows and a full one after them no class pairs: both reads race with write 0, 3 first. The two reads
 // do not conflict with each other.
 #[test]
-fn two_acquirers(rt: HostRuntime) -> Result<(), Fail> {
+fn two_acquirers() -> Result<(), Fail> {
     let written = Edge {
         target: 7,
         cost: -3,
@@ -57,7 +57,7 @@ fn two_acquirers(rt: HostRuntime) -> Result<(), Fail> {
             no(3, 5),
         ],
     };
-    step_gives(&rt, &mut log, &record, by_step)?;
+    step_gives(&mut log, &record, by_step)?;
     let by_matrix = Expected {
         partners: &[None, None, None, Some(0), None, None],
         end: End::Racy {
@@ -74,13 +74,7 @@ fn two_acquirers(rt: HostRuntime) -> Result<(), Fail> {
             no(2, 5),
         ],
     };
-    matrix_gives(
-        &rt,
-        &[0, 0, 0, 0, 0, 0, 0xff7f],
-        &mut log,
-        &record,
-        by_matrix,
-    )?;
+    matrix_gives(&[0, 0, 0, 0, 0, 0, 0xff7f], &mut log, &record, by_matrix)?;
     let by_none = Expected {
         partners: &[None, None, None, Some(0), None, Some(0)],
         end: End::Racy {
@@ -98,7 +92,7 @@ fn two_acquirers(rt: HostRuntime) -> Result<(), Fail> {
         ],
     };
     let rows = [0, 0, 0, 0, 0, 0, 0, 0, 0, 0, 0, 0, 0, 0, 0, 0, 0xffff];
-    matrix_gives(&rt, &rows, &mut log, &record, by_none)
+    matrix_gives(&rows, &mut log, &record, by_none)
 }
 
 // Synchronization operations only, all at one location: never a race.
@@ -107,7 +101,7 @@ fn two_acquirers(rt: HostRuntime) -> Result<(), Fail> {
 // 15 and nothing else: it pairs 2 with acquire 4, of class 15, and not with 5, of class 14; 3 is no acquire. The
 // step rule pairs no odd class with anything.
 #[test]
-fn synchronization_only(rt: HostRuntime) -> Result<(), Fail> {
+fn synchronization_only() -> Result<(), Fail> {
     let word = Edge {
         target: 3,
         cost: -8,
@@ -135,13 +129,13 @@ fn synchronization_only(rt: HostRuntime) -> Result<(), Fail> {
         ],
     };
     let rows = [0, 0, 0, 0, 0, 0, 0, 0, 0, 0, 0, 0, 0, 0, 0, 0x8000];
-    matrix_gives(&rt, &rows, &mut log, &record, paired)?;
+    matrix_gives(&rows, &mut log, &record, paired)?;
     let unpaired = Expected {
         partners: &[None, None, None, None, None, None],
         end: End::RaceFree,
         orders: &[yes(0, 3), yes(1, 4), no(2, 4), no(0, 4), no(2, 5), no(2, 3)],
     };
-    step_gives(&rt, &mut log, &record, unpaired)
+    step_gives(&mut log, &record, unpaired)
 }
 
 // A release orders what comes before it, and not what its processor does after it.
@@ -151,7 +145,7 @@ fn synchronization_only(rt: HostRuntime) -> Result<(), Fail> {
 // read 0. Write 4 is after 1 and not after 3: it races with 3. Read 5 is alone at its location, again without a
 // source.
 #[test]
-fn after_the_release(rt: HostRuntime) -> Result<(), Fail> {
+fn after_the_release() -> Result<(), Fail> {
     let initial = Edge { target: 0, cost: 0 };
     let flag = Edge {
         target: u32::MAX,
@@ -187,6 +181,6 @@ fn after_the_release(rt: HostRuntime) -> Result<(), Fail> {
             no(0, 3),
         ],
     };
-    step_gives(&rt, &mut log, &record, expected)?;
-    matrix_gives(&rt, &[2], &mut log, &record, expected)
+    step_gives(&mut log, &record, expected)?;
+    matrix_gives(&[2], &mut log, &record, expected)
 }

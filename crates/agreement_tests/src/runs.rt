@@ -5,8 +5,8 @@ use examination::{Open, Verdict};
 use keepers::{Keeper, Processors};
 use layers::{Allowance, Renumber, RenumberList};
 use operations::{Kind, MatrixRule, Operation, PairingRule, StepRule};
-use std::process::Abort;
 use std::test::Fail;
+use test_checks::{check, check_eq};
 use words::Word;
 
 // How an examination ends.
@@ -88,7 +88,6 @@ fn wipe<W: Word>(log: &mut [Operation<W>]) {
 
 // Examines a record over a keeper, and compares.
 fn examined<W: Word, K: Keeper, R: PairingRule>(
-    rt: &impl Abort,
     log: &mut [Operation<W>],
     keeper: &mut K,
     rule: &R,
@@ -96,28 +95,23 @@ fn examined<W: Word, K: Keeper, R: PairingRule>(
     expected: Expected,
 ) -> Result<(), Fail> {
     wipe(log);
-    assert_eq!(rt; record.len(), expected.partners.len());
+    check_eq(record.len(), expected.partners.len())?;
     let mut open = Open::new(keeper)?;
     for k in 0..record.len() {
         let answer = open.admit(log, keeper, rule, record[k])?;
-        assert_eq!(rt; answer.number as usize, k);
-        assert_eq!(rt; answer.partner, expected.partner(k));
+        check_eq(answer.number as usize, k)?;
+        check_eq(answer.partner, expected.partner(k))?;
     }
-    closed(rt, open.close(), keeper, expected)
+    closed(open.close(), keeper, expected)
 }
 
 // Compares the end, and asks the order questions of the closed state.
-fn closed<K: Keeper>(
-    rt: &impl Abort,
-    verdict: Verdict,
-    keeper: &mut K,
-    expected: Expected,
-) -> Result<(), Fail> {
+fn closed<K: Keeper>(verdict: Verdict, keeper: &mut K, expected: Expected) -> Result<(), Fail> {
     match verdict {
         Verdict::RaceFree(free) => {
-            assert_eq!(rt; End::RaceFree, expected.end);
+            check_eq(End::RaceFree, expected.end)?;
             for order in expected.orders {
-                assert_eq!(rt; free.before(keeper, order.a, order.b)?, order.before);
+                check_eq(free.before(keeper, order.a, order.b)?, order.before)?;
             }
         }
         Verdict::Racy(racy) => {
@@ -125,16 +119,16 @@ fn closed<K: Keeper>(
             let first = racy.first();
             let partner = first.partner;
             let operation = first.operation;
-            assert_eq!(rt;
+            check_eq(
                 End::Racy {
                     racing,
                     partner,
                     operation,
                 },
-                expected.end
-            );
+                expected.end,
+            )?;
             for order in expected.orders {
-                assert_eq!(rt; racy.before(keeper, order.a, order.b)?, order.before);
+                check_eq(racy.before(keeper, order.a, order.b)?, order.before)?;
             }
         }
     }
@@ -144,7 +138,6 @@ fn closed<K: Keeper>(
 // Examines a record over two keepers, which then answer every order question alike; they refuse alike at the first
 // number that they do not hold.
 fn alike<W: Word, K: Keeper + Drop, L: Keeper + Drop, R: PairingRule>(
-    rt: &impl Abort,
     mut one: K,
     mut other: L,
     log: &mut [Operation<W>],
@@ -152,15 +145,15 @@ fn alike<W: Word, K: Keeper + Drop, L: Keeper + Drop, R: PairingRule>(
     record: &[Operation<W>],
     expected: Expected,
 ) -> Result<(), Fail> {
-    examined(rt, log, &mut one, rule, record, expected)?;
-    examined(rt, log, &mut other, rule, record, expected)?;
+    examined(log, &mut one, rule, record, expected)?;
+    examined(log, &mut other, rule, record, expected)?;
     let count = one.count();
-    assert!(rt; count <= LONGEST);
+    check(count <= LONGEST)?;
     for a in 0..count + 1 {
         for b in 0..count + 1 {
             let answer = one.before(a, b).ok();
-            assert_eq!(rt; answer.is_some(), a < count && b < count);
-            assert!(rt; answer_alike(&mut one, &mut other, a, b));
+            check_eq(answer.is_some(), a < count && b < count)?;
+            check(answer_alike(&mut one, &mut other, a, b))?;
         }
     }
     Ok(())
@@ -168,7 +161,6 @@ fn alike<W: Word, K: Keeper + Drop, L: Keeper + Drop, R: PairingRule>(
 
 // Puts the same layers over both keepers. The allowances run out with the record.
 fn piled<W: Word, K: Keeper + Drop, L: Keeper + Drop, R: PairingRule>(
-    rt: &impl Abort,
     pile: Pile,
     one: K,
     other: L,
@@ -181,21 +173,21 @@ fn piled<W: Word, K: Keeper + Drop, L: Keeper + Drop, R: PairingRule>(
     let mut list = RenumberList::new();
     list.set([9, 15, 0, 7, 1, 14, 2, 13, 3, 12, 4, 11, 5, 10, 6, 8])?;
     match pile {
-        Pile::Plain => alike(rt, one, other, log, rule, record, expected),
+        Pile::Plain => alike(one, other, log, rule, record, expected),
         Pile::Allowed => {
             let one = Allowance::new(n, one);
             let other = Allowance::new(n, other);
-            alike(rt, one, other, log, rule, record, expected)
+            alike(one, other, log, rule, record, expected)
         }
         Pile::RenumberedAllowed => {
             let one = Renumber::new(list, Allowance::new(n, one));
             let other = Renumber::new(list, Allowance::new(n, other));
-            alike(rt, one, other, log, rule, record, expected)
+            alike(one, other, log, rule, record, expected)
         }
         Pile::AllowedRenumberedAllowed => {
             let one = Allowance::new(n, Renumber::new(list, Allowance::new(n, one)));
             let other = Allowance::new(n, Renumber::new(list, Allowance::new(n, other)));
-            alike(rt, one, other, log, rule, record, expected)
+            alike(one, other, log, rule, record, expected)
         }
     }
 }
@@ -203,7 +195,6 @@ fn piled<W: Word, K: Keeper + Drop, L: Keeper + Drop, R: PairingRule>(
 // Makes both keepers for all 16 processors, with room for the longest record, and puts them in a pile. The clock
 // keeper has 6 rows of 17 numbers, the arrow keeper 6 pairs and 6 marks.
 fn in_pile<W: Word, R: PairingRule>(
-    rt: &impl Abort,
     pile: Pile,
     log: &mut [Operation<W>],
     rule: &R,
@@ -215,48 +206,38 @@ fn in_pile<W: Word, R: PairingRule>(
     let mut pairs = [0u16; 12];
     let mut marks = [0u8; 6];
     let arrow = ArrowKeeper::new(Processors::new(16)?, &mut pairs, &mut marks);
-    piled(rt, pile, clock, arrow, log, rule, record, expected)
+    piled(pile, clock, arrow, log, rule, record, expected)
 }
 
 // Whether a record gives what is expected over both keepers, in every pile. The log is any of the record's length.
 fn gives<W: Word, R: PairingRule>(
-    rt: &impl Abort,
     log: &mut [Operation<W>],
     rule: &R,
     record: &[Operation<W>],
     expected: Expected,
 ) -> Result<(), Fail> {
-    in_pile(rt, Pile::Plain, log, rule, record, expected)?;
-    in_pile(rt, Pile::Allowed, log, rule, record, expected)?;
-    in_pile(rt, Pile::RenumberedAllowed, log, rule, record, expected)?;
-    in_pile(
-        rt,
-        Pile::AllowedRenumberedAllowed,
-        log,
-        rule,
-        record,
-        expected,
-    )
+    in_pile(Pile::Plain, log, rule, record, expected)?;
+    in_pile(Pile::Allowed, log, rule, record, expected)?;
+    in_pile(Pile::RenumberedAllowed, log, rule, record, expected)?;
+    in_pile(Pile::AllowedRenumberedAllowed, log, rule, record, expected)
 }
 
 // The same under the step rule.
 pub(crate) fn step_gives<W: Word>(
-    rt: &impl Abort,
     log: &mut [Operation<W>],
     record: &[Operation<W>],
     expected: Expected,
 ) -> Result<(), Fail> {
-    gives(rt, log, &StepRule, record, expected)
+    gives(log, &StepRule, record, expected)
 }
 
 // The same under the matrix rule with these rows.
 pub(crate) fn matrix_gives<W: Word>(
-    rt: &impl Abort,
     rows: &[u16],
     log: &mut [Operation<W>],
     record: &[Operation<W>],
     expected: Expected,
 ) -> Result<(), Fail> {
     let rule = MatrixRule::new(rows);
-    gives(rt, log, &rule, record, expected)
+    gives(log, &rule, record, expected)
 }

@@ -1,5 +1,5 @@
 -- Which check of an admission fails first, and what holds when none fails. Assumes nothing.
-use Rattle.std.proofs.Common.{◌≡◌, ℕ, ◌<◌, ◌≤◌, true, false, cond, eqb, ltb, List, length, ℤ, Ok, Err, Result, ⊎_elim, arith}
+use Rattle.std.proofs.Common.{◌≡◌, ℕ, ◌<◌, ◌≤◌, true, false, eqb, ltb, List, length, ℤ, Ok, Err, Result, ⊎_elim, arith}
 use Rattle.std.proofs.lemmas.Bool.{lt-ltb, le-ltb, eq-eqb, ne_eqb, cases_Bool, cases_eq, cases_lt}
 use Rattle.operations.specs.Events.{Event, at}
 use Rattle.operations.specs.Rules.{most_classes}

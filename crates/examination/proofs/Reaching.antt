@@ -1,20 +1,20 @@
 -- Wherever a run leads, the keeper tells the order exactly and the numbers tell the races exactly. Assumes nothing.
-use Rattle.std.proofs.Common.{◌≡◌, ℕ, suc, ◌+◌, ◌<◌, ◌≤◌, Bool, true, false, cond, ◌&&◌, eqb, ltb, ◌⊎◌, List, [], ◌∷◌, length, get_or, set, is_some, Some, None, Ok, Err, Option, Result, sym, refl, ap, ◌∙◌, subst, ap₂, inl, inr, ⊎_elim, arith, length-set}
+use Rattle.std.proofs.Common.{◌≡◌, ℕ, suc, ◌<◌, ◌≤◌, Bool, true, false, cond, eqb, ltb, List, [], ◌∷◌, length, is_some, Some, None, Ok, Err, Option, Result, sym, refl, ap, ◌∙◌, subst, ⊎_elim, arith}
 use Rattle.std.proofs.lemmas.List.{get_or-set_same, get_or-set_other}
 use Rattle.std.proofs.lemmas.Bool.{cases_lt, cases_eq, lt-ltb, le-ltb, eq-eqb, ne_eqb, false≢true, and_right}
 use Rattle.operations.specs.Events.{Event, at, nothing}
-use Rattle.operations.specs.History.{History, Before}
+use Rattle.operations.specs.History.{History}
 use Rattle.operations.specs.Races.{racing_partner}
 use Rattle.keepers.specs.Meaning.{Meaning, held}
 use Rattle.keepers.specs.Asking.{order}
 use Rattle.keepers.specs.declared.fault.KeeperFault.TheVariants.{NotHeld}
-use Rattle.laws.specs.Exact.{Keeps, IsPartner, RacyAs}
-use Rattle.laws.specs.Tally.{Tally, no_operation, noted, tally_of}
+use Rattle.laws.specs.Exact.{Keeps, RacyAs}
+use Rattle.laws.specs.Tally.{Tally, noted, tally_of}
 use Rattle.laws.proofs.Kept.{Grows, empty_keeps, grown_keeps}
 use Rattle.laws.proofs.Kept as kept
 use Rattle.laws.proofs.Verdicts.{partner_exact, tally_grown, tally_none, tally_tied, tally_clear, tally_racy}
 use Rattle.examination.specs.declared.fault.ExamFault.{ExamFault}
-use Rattle.examination.specs.declared.fault.ExamFault.TheVariants.{Keeper, CountDiffers}
+use Rattle.examination.specs.declared.fault.ExamFault.TheVariants.{CountDiffers}
 use Rattle.examination.specs.declared.admission.Admitted.{Admitted}
 use Rattle.examination.specs.Admission.{Setting, Exam, partner_of, events_with, keeper_with, admission, after_admission}
 use Rattle.examination.specs.Asking.{from_keeper, order_answer}

@@ -1,5 +1,5 @@
 -- Closing by the first pair is closing by the count. Assumes nothing.
-use Rattle.std.proofs.Common.{◌≡◌, ℕ, ◌<◌, true, false, cond, eqb, ltb, is_some, Some, None, sym, ap, ◌∙◌, arith}
+use Rattle.std.proofs.Common.{◌≡◌, cond, is_some, Some, None, sym, ap, ◌∙◌, arith}
 use Rattle.std.proofs.lemmas.Bool.{eq-eqb, ne_eqb, ltb-true, ltb-false}
 use Rattle.examination.specs.declared.open.Open.{Open}
 use Rattle.examination.specs.declared.racy.RacingPair.{RacingPair}

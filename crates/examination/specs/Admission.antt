@@ -2,7 +2,7 @@
 -- Assumes nothing.
 use Rattle.std.specs.Prelude.{ℕ, Bool, cond, List, length, ℤ, Some, None, Ok, Err, Option, Result, ◌==◌, nat_lt, slice_set}
 use Rattle.operations.specs.declared.operation.Operation.{Operation}
-use Rattle.operations.specs.Events.{Event, event, events, at}
+use Rattle.operations.specs.Events.{Event, events, at}
 use Rattle.operations.specs.Races.{racing_partner}
 use Rattle.operations.specs.Rules.{most_classes, pairing}
 use Rattle.operations.specs.Sources.{fits_source, release_for}

@@ -1,5 +1,5 @@
 -- What an addition does to a keeper's meaning. Assumes nothing.
-use Rattle.std.specs.Prelude.{ℕ, zero, suc, ◌-◌, ◌<◌, Bool, true, false, cond, ◌&&◌, ◌||◌, List, [], ◌∷◌, ◌++◌, length, Some, None, Ok, Err, Option, Result, ◌==◌, nat_lt, slice_index}
+use Rattle.std.specs.Prelude.{ℕ, zero, suc, ◌-◌, ◌<◌, Bool, true, false, cond, ◌&&◌, ◌||◌, [], ◌∷◌, ◌++◌, Some, None, Ok, Err, Option, Result, ◌==◌, nat_lt, slice_index}
 use Rattle.keepers.specs.Meaning.{Meaning, held}
 use Rattle.keepers.specs.declared.fault.KeeperFault.{KeeperFault}
 use Rattle.keepers.specs.declared.fault.KeeperFault.TheVariants.{NotAdmitted, GiverNotHeld, NoRoom}

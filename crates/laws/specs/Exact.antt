@@ -1,6 +1,6 @@
 -- What it is to tell a recorded run's order and its races exactly. Assumes nothing.
 use Rattle.std.specs.Prelude.{◌≡◌, ℕ, suc, ◌<◌, Some, None, Decides, Option, slice_index}
-use Rattle.operations.specs.History.{History, Before, Race, RaceFree}
+use Rattle.operations.specs.History.{History, Before, Race}
 use Rattle.keepers.specs.Meaning.{Meaning, held}
 
 -- a keeper that holds the operations of a run and says yes exactly where a chain of arrows leads from one to

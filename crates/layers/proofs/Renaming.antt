@@ -1,5 +1,5 @@
 -- What a renumber layer does to a keeper's meaning. Assumes nothing.
-use Rattle.std.proofs.Common.{◌≡◌, ℕ, ◌-◌, ◌<◌, ◌≤◌, Bool, true, false, cond, ◌&&◌, ◌||◌, eqb, ltb, List, [], ◌∷◌, ◌++◌, map, length, get_or, Some, None, Ok, Err, Option, Result, sym, refl, ap, ◌∙◌, ⊎_elim, arith}
+use Rattle.std.proofs.Common.{◌≡◌, ℕ, ◌-◌, ◌<◌, ◌≤◌, true, false, cond, ◌&&◌, ◌||◌, eqb, ltb, List, [], ◌∷◌, ◌++◌, map, length, get_or, Some, None, Ok, Err, Option, Result, sym, refl, ap, ◌∙◌, ⊎_elim, arith}
 use mathlib.Core.Path.{fun_ext}
 use lib.ListN.{length-map}
 use Rattle.std.proofs.lemmas.List.{map_push, get_or-map}
@@ -8,7 +8,7 @@ use Rattle.keepers.specs.Meaning.{Meaning, held, most_processors}
 use Rattle.keepers.specs.Adding.{latest_of, latest, reaches, added, addition, answered, after_addition, giver_held}
 use Rattle.keepers.specs.Asking.{order}
 use Rattle.keepers.specs.declared.fault.KeeperFault.{KeeperFault}
-use Rattle.keepers.specs.declared.fault.KeeperFault.TheVariants.{Unfit, NotAdmitted, GiverNotHeld, NoRoom, NotHeld}
+use Rattle.keepers.specs.declared.fault.KeeperFault.TheVariants.{NotHeld}
 use Rattle.layers.specs.Renumbering.{Once, place, entry_of}
 use Rattle.layers.specs.Layers.{renumbered}
 use Rattle.layers.proofs.Placing.{place_entry, same_test}

@@ -1,11 +1,11 @@
 -- Records that agree on their first operations tell the same of what follows those; a part from the start of a
 -- record agrees with it. Assumes nothing.
-use Rattle.std.proofs.Common.{◌≡◌, ℕ, ◌<◌, ◌≤◌, Bool, cond, not, ◌&&◌, ◌||◌, List, length, get_or, take, ℤ, Some, None, Option, sym, refl, ap, ◌∙◌, subst, arith}
+use Rattle.std.proofs.Common.{◌≡◌, ℕ, ◌<◌, ◌≤◌, Bool, cond, not, ◌&&◌, ◌||◌, List, length, get_or, take, ℤ, Some, None, Option, sym, refl, ap, ◌∙◌, arith}
 use Rattle.std.proofs.lemmas.List.{get_or-take, length-take-le, take-map}
 use Rattle.operations.specs.declared.operation.Operation.{Operation}
 use Rattle.operations.specs.Events.{Event, event, events, at, nothing}
 use Rattle.operations.specs.Kinds.{reads, acquire_kind, release_kind}
-use Rattle.operations.specs.Sources.{last_such, writes_to, latest_write, word_from, fits_source, if_paired, release_for}
+use Rattle.operations.specs.Sources.{writes_to, latest_write, word_from, fits_source, if_paired, release_for}
 use Rattle.words.specs.Words.{same_word}
 use Rattle.operations.proofs.Searching.{such_agree, such_found}
 

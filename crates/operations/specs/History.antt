@@ -1,5 +1,5 @@
 -- A recorded run, and its order and races as relations. Assumes nothing.
-use Rattle.std.specs.Prelude.{◌≡◌, ℕ, ◌<◌, Bool, true, ◌≢◌, ◌⊎◌, List, ℤ}
+use Rattle.std.specs.Prelude.{◌≡◌, ℕ, ◌<◌, Bool, true, ◌≢◌, ◌⊎◌}
 use Rattle.operations.specs.Kinds.{reads, writes, data_kind, acquire_kind, release_kind}
 use Rattle.operations.specs.Events.{Event}
 

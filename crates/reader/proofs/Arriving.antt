@@ -1,11 +1,10 @@
 -- A reading is a run of the examination, so that its verdict is exact. Assumes nothing.
-use Rattle.std.proofs.Common.{◌≡◌, ℕ, ◌<◌, Bool, true, false, cond, eqb, ◌⊎◌, List, [], ◌∷◌, ◌++◌, length, take, set, ℤ, Ok, Err, Option, Result, sym, refl, ap, ◌∙◌, subst, ⊎_elim, append_assoc, arith, take-suc-set}
+use Rattle.std.proofs.Common.{◌≡◌, ℕ, ◌<◌, Bool, true, false, cond, eqb, List, [], ◌∷◌, ◌++◌, length, take, set, ℤ, Ok, Err, Option, Result, sym, refl, ap, ◌∙◌, subst, ⊎_elim, append_assoc, arith, take-suc-set}
 use lib.ListN.{length-map}
 use Rattle.std.proofs.lemmas.List.{map-set, append-nil}
 use Rattle.std.proofs.lemmas.Bool.{eqb-true, eq-eqb}
 use Rattle.operations.specs.declared.operation.Operation.{Operation}
 use Rattle.operations.specs.Events.{event, events, at}
-use Rattle.operations.specs.History.{History}
 use Rattle.keepers.specs.Meaning.{Meaning, held}
 use Rattle.laws.specs.Tally.{Tally, no_operation, noted}
 use Rattle.examination.specs.declared.admission.Admitted.{Admitted}
@@ -13,8 +12,8 @@ use Rattle.examination.specs.declared.fault.ExamFault.{ExamFault}
 use Rattle.examination.specs.declared.fault.ExamFault.TheVariants.{CountDiffers}
 use Rattle.examination.specs.declared.open.Open.{Open}
 use Rattle.examination.specs.Admission.{Setting, Exam, tally, opening, admission, after_admission, keeper_with, partner_of}
-use Rattle.examination.specs.Closing.{Said, closing}
-use Rattle.examination.specs.Runs.{Call, admit, after, run, Reached, history, Holds, VerdictExact}
+use Rattle.examination.specs.Closing.{Said}
+use Rattle.examination.specs.Runs.{Call, admit, after, run, Reached, Holds, VerdictExact}
 use Rattle.examination.proofs.Admitting.{Taken, Refused, cases_admission, noted_admitted}
 use Rattle.examination.proofs.Reaching.{reached_sound}
 use Rattle.record_file.specs.declared.fault.FileFault.{FileFault}

@@ -1,5 +1,5 @@
 -- Reading items one after another. Assumes nothing.
-use Rattle.std.proofs.Common.{◌≡◌, ℕ, ◌+◌, ◌<◌, ◌≤◌, cond, eqb, ◌⊎◌, List, [], ◌∷◌, ◌++◌, length, take, drop, set, ℤ, Ok, Err, Option, Result, sym, refl, ap, ◌∙◌, ap₂, ⊎_elim, arith}
+use Rattle.std.proofs.Common.{◌≡◌, ℕ, ◌+◌, ◌≤◌, cond, List, [], ◌∷◌, ◌++◌, length, take, drop, set, ℤ, Ok, Err, Option, Result, sym, ap, ◌∙◌, ⊎_elim, arith}
 use Rattle.std.proofs.lemmas.List.{length-take-le}
 use Rattle.std.proofs.lemmas.Bool.{eq-eqb}
 use Rattle.operations.specs.declared.operation.Operation.{Operation}
@@ -8,7 +8,7 @@ use Rattle.keepers.specs.Meaning.{Meaning}
 use Rattle.examination.specs.declared.admission.Admitted.{Admitted}
 use Rattle.examination.specs.declared.fault.ExamFault.{ExamFault}
 use Rattle.examination.specs.declared.open.Open.{Open}
-use Rattle.examination.specs.Admission.{Setting, Exam, exam, tally, admission, after_admission, grown, keeper_with, partner_of, recorded}
+use Rattle.examination.specs.Admission.{Setting, Exam, exam, admission, after_admission, grown, partner_of, recorded}
 use Rattle.examination.proofs.Admitting.{Taken, Refused, cases_admission, next_exam}
 use Rattle.record_file.specs.declared.fault.FileFault.{FileFault}
 use Rattle.record_file.specs.declared.fault.FileFault.TheVariants.{Record, Section as UnfitSection}
@@ -16,7 +16,7 @@ use Rattle.record_file.specs.declared.placed.Placed.{Placed}
 use Rattle.record_file.specs.Placing.{placed_at}
 use Rattle.record_file.specs.Records.{Item, operation, stop, record_size, operation_of, record_of, and_then, rest_items}
 use Rattle.record_file.proofs.Items.{records_more}
-use Rattle.reader.specs.Reading.{Reading, exam_of, with_operation, Ended, ended, if_admitted, read}
+use Rattle.reader.specs.Reading.{Reading, exam_of, with_operation, ended, if_admitted, read}
 use Rattle.reader.specs.Examining.{reading}
 
 module _ {W : Type 0} (value : W → List ℤ) (G : Setting) where

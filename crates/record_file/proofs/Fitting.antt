@@ -1,5 +1,5 @@
 -- A directory that was found fit lies within the file, and its sections are placed as they should be. Assumes nothing.
-use Rattle.std.proofs.Common.{◌≡◌, ℕ, zero, suc, ◌+◌, ◌<◌, ◌≤◌, Bool, true, false, cond, ◌&&◌, leb, List, length, get_or, Some, None, Ok, Err, Option, Result, refl, subst, ⊎_elim, arith}
+use Rattle.std.proofs.Common.{◌≡◌, ℕ, zero, suc, ◌+◌, ◌<◌, ◌≤◌, Bool, true, false, cond, leb, List, length, get_or, Some, None, Ok, Err, Option, Result, refl, subst, ⊎_elim, arith}
 use Rattle.std.proofs.lemmas.Bool.{leb-true, and_parts, cases_eq}
 use Rattle.words.specs.Bytes.{big16}
 use Rattle.record_file.specs.declared.fault.FileFault.{FileFault}

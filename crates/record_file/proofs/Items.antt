@@ -1,6 +1,6 @@
 -- What a loop over sections and records needs of the items of a file: how many are left, one step, and the end.
 -- Assumes nothing.
-use Rattle.std.proofs.Common.{◌≡◌, ℕ, zero, suc, ◌+◌, ◌-◌, ◌/◌, ◌<◌, ◌≤◌, Bool, true, false, cond, List, [], ◌∷◌, ◌++◌, length, get_or, take, drop, Ok, Err, Result, sym, refl, ap, ◌∙◌, arith}
+use Rattle.std.proofs.Common.{◌≡◌, ℕ, suc, ◌+◌, ◌-◌, ◌/◌, ◌<◌, ◌≤◌, true, false, List, [], ◌∷◌, ◌++◌, length, get_or, take, drop, Ok, Err, sym, ap, ◌∙◌, arith}
 use native.Mathlib.Nat.{div-eq_of_lt, div-eq-sub-div}
 use Rattle.std.proofs.lemmas.List.{length-drop}
 use Rattle.std.proofs.lemmas.Bool.{cond-true, cond-false}
@@ -8,7 +8,7 @@ use Rattle.record_file.specs.declared.fault.FileFault.{FileFault}
 use Rattle.record_file.specs.declared.fault.FileFault.TheVariants.{Section as UnfitSection}
 use Rattle.record_file.specs.declared.header.Header.{Header}
 use Rattle.record_file.specs.Directory.{section_start, section_bytes, directory_of}
-use Rattle.record_file.specs.Records.{Item, stop, record_size, operation_of, and_then, record_items, rest_items, whole, section_items, sections_items, after_directory, file_items}
+use Rattle.record_file.specs.Records.{stop, record_size, operation_of, and_then, record_items, rest_items, whole, section_items, sections_items, after_directory, file_items}
 
 module _ {W : Type 0} (decoded : List ℕ → W) (size : ℕ) where
   -- a record is left, or none

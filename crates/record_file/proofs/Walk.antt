@@ -1,6 +1,6 @@
 -- The walk over the directory's pairs: one step, and what holds of each section when none is unfit.
 -- Assumes nothing.
-use Rattle.std.proofs.Common.{◌≡◌, ℕ, zero, suc, ◌+◌, ◌-◌, ◌<◌, ◌≤◌, Bool, true, false, cond, List, length, Some, None, Option, refl, ap, arith}
+use Rattle.std.proofs.Common.{◌≡◌, ℕ, zero, suc, ◌+◌, ◌-◌, ◌<◌, Bool, true, false, cond, List, Some, None, Option, refl, ap, arith}
 use Rattle.record_file.specs.Directory.{section_end, fit, end_if_fit, first_unfit}
 
 less_one : (k : ℕ) → suc k - 1 ≡ k

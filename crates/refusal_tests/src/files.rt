@@ -5,8 +5,8 @@ use layers::Allowance;
 use operations::{Kind, Operation, StepRule};
 use reader::examine;
 use record_file::FileFault;
-use std::process::Abort;
 use std::test::Fail;
+use test_checks::check_eq;
 use words::Count;
 
 // How the examination of a file ends.
@@ -38,13 +38,12 @@ fn end_of(answer: Result<Verdict, FileFault>) -> End {
 // Examines a file of counts over a keeper with an allowance, in a record of four places, and compares how it ends
 // and how many operations are admitted by then.
 fn over<K: Keeper + Drop>(
-    rt: &impl Abort,
     keeper: K,
     allowance: usize,
     file: &[u8],
     end: End,
     admitted: u16,
-) {
+) -> Result<(), Fail> {
     let mut pile = Allowance::new(allowance, keeper);
     let blank = Operation {
         processor: 0,
@@ -56,67 +55,47 @@ fn over<K: Keeper + Drop>(
     let mut log = [blank; 4];
     let mut partners = [None; 4];
     let answer = examine(file, &mut log, &mut pile, &StepRule, &mut partners);
-    assert_eq!(rt; end_of(answer), end);
-    assert_eq!(rt; pile.count(), admitted);
+    check_eq(end_of(answer), end)?;
+    check_eq(pile.count(), admitted)
 }
 
 // The same over a clock keeper for two processors.
-fn ends_with(
-    rt: &impl Abort,
-    allowance: usize,
-    file: &[u8],
-    end: End,
-    admitted: u16,
-) -> Result<(), Fail> {
+fn ends_with(allowance: usize, file: &[u8], end: End, admitted: u16) -> Result<(), Fail> {
     let mut numbers = [0u16; 24];
     let two = Processors::new(2)?;
     let keeper = ClockKeeper::new(two, &mut numbers);
-    over(rt, keeper, allowance, file, end, admitted);
-    Ok(())
+    over(keeper, allowance, file, end, admitted)
 }
 
-fn ends(rt: &impl Abort, file: &[u8], end: End, admitted: u16) -> Result<(), Fail> {
-    ends_with(rt, 8, file, end, admitted)
+fn ends(file: &[u8], end: End, admitted: u16) -> Result<(), Fail> {
+    ends_with(8, file, end, admitted)
 }
 
-fn refused(
-    rt: &impl Abort,
-    file: &[u8],
-    number: u8,
-    offset: usize,
-    admitted: u16,
-) -> Result<(), Fail> {
-    ends(rt, file, End::Refused { number, offset }, admitted)
+fn refused(file: &[u8], number: u8, offset: usize, admitted: u16) -> Result<(), Fail> {
+    ends(file, End::Refused { number, offset }, admitted)
 }
 
 // Word type, number of sections, and the directory's length.
 #[test]
-fn headers(rt: HostRuntime) -> Result<(), Fail> {
-    refused(&rt, b"", 17, 0, 0)?;
-    refused(&rt, b"\x01", 17, 0, 0)?;
-    refused(&rt, b"\x01\x00", 17, 0, 0)?;
-    refused(&rt, b"\x00\x00\x00", 17, 0, 0)?;
-    refused(&rt, b"\x03\x00\x00", 17, 0, 0)?;
-    refused(&rt, b"\xff\x00\x00", 17, 0, 0)?;
-    refused(&rt, b"\x01\x00\x01", 17, 0, 0)?;
-    refused(&rt, b"\x01\x00\x01\x00\x00\x00\x0b\x00\x00\x00", 17, 0, 0)?;
-    refused(
-        &rt,
-        b"\x01\xff\xff\x00\x00\x00\x0b\x00\x00\x00\x00",
-        17,
-        0,
-        0,
-    )?;
-    ends(&rt, b"\x01\x00\x00", End::RaceFree, 0)?;
-    ends(&rt, b"\x01\x00\x00\x09\x09", End::RaceFree, 0)
+fn headers() -> Result<(), Fail> {
+    refused(b"", 17, 0, 0)?;
+    refused(b"\x01", 17, 0, 0)?;
+    refused(b"\x01\x00", 17, 0, 0)?;
+    refused(b"\x00\x00\x00", 17, 0, 0)?;
+    refused(b"\x03\x00\x00", 17, 0, 0)?;
+    refused(b"\xff\x00\x00", 17, 0, 0)?;
+    refused(b"\x01\x00\x01", 17, 0, 0)?;
+    refused(b"\x01\x00\x01\x00\x00\x00\x0b\x00\x00\x00", 17, 0, 0)?;
+    refused(b"\x01\xff\xff\x00\x00\x00\x0b\x00\x00\x00\x00", 17, 0, 0)?;
+    ends(b"\x01\x00\x00", End::RaceFree, 0)?;
+    ends(b"\x01\x00\x00\x09\x09", End::RaceFree, 0)
 }
 
 // The first unfit pair, by its own offset.
 #[test]
-fn pairs(rt: HostRuntime) -> Result<(), Fail> {
+fn pairs() -> Result<(), Fail> {
     // in the directory
     refused(
-        &rt,
         b"\x01\x00\x01\x00\x00\x00\x0a\x00\x00\x00\x01\x00",
         17,
         3,
@@ -124,14 +103,12 @@ fn pairs(rt: HostRuntime) -> Result<(), Fail> {
     )?;
     // past the end
     refused(
-        &rt,
         b"\x01\x00\x01\x00\x00\x00\x0b\x00\x00\x00\x02\x00",
         17,
         3,
         0,
     )?;
     refused(
-        &rt,
         b"\x01\x00\x01\x00\x00\x00\x0d\x00\x00\x00\x00\x00",
         17,
         3,
@@ -139,14 +116,12 @@ fn pairs(rt: HostRuntime) -> Result<(), Fail> {
     )?;
     // offset plus length is 2^32, and more
     refused(
-        &rt,
         b"\x01\x00\x01\x00\x00\x00\x0b\xff\xff\xff\xf5\x00",
         17,
         3,
         0,
     )?;
     refused(
-        &rt,
         b"\x01\x00\x01\xff\xff\xff\xff\xff\xff\xff\xff\x00",
         17,
         3,
@@ -154,14 +129,12 @@ fn pairs(rt: HostRuntime) -> Result<(), Fail> {
     )?;
     // unsorted, and overlapping by one byte
     refused(
-        &rt,
         b"\x01\x00\x02\x00\x00\x00\x14\x00\x00\x00\x01\x00\x00\x00\x13\x00\x00\x00\x01\x00\x01",
         17,
         11,
         0,
     )?;
     refused(
-        &rt,
         b"\x01\x00\x02\x00\x00\x00\x13\x00\x00\x00\x02\x00\x00\x00\x14\x00\x00\x00\x01\x00\x01",
         17,
         11,
@@ -169,7 +142,6 @@ fn pairs(rt: HostRuntime) -> Result<(), Fail> {
     )?;
     // the first of two unfit pairs
     refused(
-        &rt,
         b"\x01\x00\x02\x00\x00\x00\x00\x00\x00\x00\x01\x00\x00\x00\x00\x00\x00\x00\x01\x00\x01",
         17,
         3,
@@ -177,7 +149,6 @@ fn pairs(rt: HostRuntime) -> Result<(), Fail> {
     )?;
     // one after the other, with room between, is fit
     ends(
-        &rt,
         b"\x01\x00\x02\x00\x00\x00\x13\x00\x00\x00\x01\x00\x00\x00\x15\x00\x00\x00\x01\x00\xff\x01",
         End::RaceFree,
         0,
@@ -186,44 +157,33 @@ fn pairs(rt: HostRuntime) -> Result<(), Fail> {
 
 // Sections when they are reached, and kinds.
 #[test]
-fn sections(rt: HostRuntime) -> Result<(), Fail> {
+fn sections() -> Result<(), Fail> {
     // no byte, no whole record, and no record
+    refused(b"\x01\x00\x01\x00\x00\x00\x0b\x00\x00\x00\x00", 18, 11, 0)?;
     refused(
-        &rt,
-        b"\x01\x00\x01\x00\x00\x00\x0b\x00\x00\x00\x00",
-        18,
-        11,
-        0,
-    )?;
-    refused(
-        &rt,
         b"\x01\x00\x01\x00\x00\x00\x0b\x00\x00\x00\x08\x00\x00\x00\x00\x01\x00\x00\x00",
         18,
         11,
         0,
     )?;
     refused(
-        &rt,
         b"\x01\x00\x01\x00\x00\x00\x0b\x00\x00\x00\x0a\x00\x00\x00\x00\x01\x00\x00\x00\x00\x00",
         18,
         11,
         0,
     )?;
     ends(
-        &rt,
         b"\x01\x00\x01\x00\x00\x00\x0b\x00\x00\x00\x01\x00",
         End::RaceFree,
         0,
     )?;
     // kinds 5 and 6
     ends(
-        &rt,
         b"\x01\x00\x01\x00\x00\x00\x0b\x00\x00\x00\x09\x00\x05\x00\x00\x01\x00\x00\x00\x07",
         End::RaceFree,
         1,
     )?;
     refused(
-        &rt,
         b"\x01\x00\x01\x00\x00\x00\x0b\x00\x00\x00\x09\x00\x06\x00\x00\x01\x00\x00\x00\x07",
         19,
         12,
@@ -231,7 +191,6 @@ fn sections(rt: HostRuntime) -> Result<(), Fail> {
     )?;
     // a good section before an empty one: what was admitted stays
     refused(
-        &rt,
         b"\x01\x00\x02\x00\x00\x00\x13\x00\x00\x00\x09\x00\x00\x00\x1c\x00\x00\x00\x00\x00\x01\x00\x00\x01\x00\x00\x00\x07",
         18,
         28,
@@ -239,7 +198,6 @@ fn sections(rt: HostRuntime) -> Result<(), Fail> {
     )?;
     // a good record before a kind over 5
     refused(
-        &rt,
         b"\x01\x00\x01\x00\x00\x00\x0b\x00\x00\x00\x11\x00\x01\x00\x00\x01\x00\x00\x00\x07\xff\x00\x00\x01\x00\x00\x00\x07",
         19,
         20,
@@ -249,31 +207,27 @@ fn sections(rt: HostRuntime) -> Result<(), Fail> {
 
 // Refusals of an admission, at their record's offset.
 #[test]
-fn admissions(rt: HostRuntime) -> Result<(), Fail> {
+fn admissions() -> Result<(), Fail> {
     // class 16; a first read of 1; processor 2 of two
     refused(
-        &rt,
         b"\x01\x00\x01\x00\x00\x00\x0b\x00\x00\x00\x09\x00\x01\x10\x00\x01\x00\x00\x00\x07",
         8,
         12,
         0,
     )?;
     refused(
-        &rt,
         b"\x01\x00\x01\x00\x00\x00\x0b\x00\x00\x00\x09\x00\x00\x00\x00\x01\x00\x00\x00\x01",
         9,
         12,
         0,
     )?;
     refused(
-        &rt,
         b"\x01\x00\x01\x00\x00\x00\x0b\x00\x00\x00\x09\x02\x01\x00\x00\x01\x00\x00\x00\x07",
         2,
         12,
         0,
     )?;
     refused(
-        &rt,
         b"\x01\x00\x01\x00\x00\x00\x0b\x00\x00\x00\x09\xff\x01\x00\x00\x01\x00\x00\x00\x07",
         2,
         12,
@@ -281,21 +235,18 @@ fn admissions(rt: HostRuntime) -> Result<(), Fail> {
     )?;
     // a write of 7 and a read of 8, then of 7
     refused(
-        &rt,
         b"\x01\x00\x01\x00\x00\x00\x0b\x00\x00\x00\x11\x00\x01\x00\x00\x01\x00\x00\x00\x07\x00\x00\x00\x01\x00\x00\x00\x08",
         9,
         20,
         1,
     )?;
     ends(
-        &rt,
         b"\x01\x00\x01\x00\x00\x00\x0b\x00\x00\x00\x11\x00\x01\x00\x00\x01\x00\x00\x00\x07\x00\x00\x00\x01\x00\x00\x00\x07",
         End::RaceFree,
         2,
     )?;
     // the same read by another processor races
     ends(
-        &rt,
         b"\x01\x00\x02\x00\x00\x00\x13\x00\x00\x00\x09\x00\x00\x00\x1c\x00\x00\x00\x09\x00\x01\x00\x00\x01\x00\x00\x00\x07\x01\x00\x00\x00\x01\x00\x00\x00\x07",
         End::Racy,
         2,
@@ -304,11 +255,10 @@ fn admissions(rt: HostRuntime) -> Result<(), Fail> {
 
 // No room in the keeper, and no place in the record: five writes.
 #[test]
-fn room(rt: HostRuntime) -> Result<(), Fail> {
+fn room() -> Result<(), Fail> {
     let five =
         b"\x01\x00\x01\x00\x00\x00\x0b\x00\x00\x00\x29\x00\x01\x00\x00\x01\x00\x00\x00\x01\x01\x00\x00\x01\x00\x00\x00\x02\x01\x00\x00\x01\x00\x00\x00\x03\x01\x00\x00\x01\x00\x00\x00\x04\x01\x00\x00\x01\x00\x00\x00\x05";
     ends_with(
-        &rt,
         0,
         five,
         End::Refused {
@@ -318,7 +268,6 @@ fn room(rt: HostRuntime) -> Result<(), Fail> {
         0,
     )?;
     ends_with(
-        &rt,
         3,
         five,
         End::Refused {
@@ -328,7 +277,6 @@ fn room(rt: HostRuntime) -> Result<(), Fail> {
         3,
     )?;
     ends_with(
-        &rt,
         5,
         five,
         End::Refused {

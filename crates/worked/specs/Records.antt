@@ -1,10 +1,10 @@
 -- The worked records, as lists of calls, and their examination from a fresh start. Assumes nothing.
-use Rattle.std.specs.Prelude.{ℕ, zero, suc, Bool, List, [], ◌∷◌, replicate, pos, Option, Result}
+use Rattle.std.specs.Prelude.{ℕ, Bool, List, [], ◌∷◌, replicate, pos, Option, Result}
 use Rattle.operations.specs.declared.kind.Kind.{Kind}
 use Rattle.operations.specs.declared.kind.Kind.TheVariants.{DataRead, DataWrite, SyncRead, SyncWrite, Acquire, Release}
 use Rattle.operations.specs.Events.{Event, nothing}
 use Rattle.operations.specs.Rules.{step_pairs}
-use Rattle.keepers.specs.Meaning.{Meaning, empty}
+use Rattle.keepers.specs.Meaning.{empty}
 use Rattle.laws.specs.Tally.{no_operation}
 use Rattle.examination.specs.declared.admission.Admitted.{Admitted}
 use Rattle.examination.specs.declared.fault.ExamFault.{ExamFault}

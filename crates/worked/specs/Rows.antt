@@ -1,6 +1,6 @@
 -- What the worked records come to. Assumes nothing.
-use Rattle.std.specs.Prelude.{◌≡◌, ℕ, true, false, [], ◌∷◌, Some, None, Ok, Err}
-use Rattle.operations.specs.declared.kind.Kind.TheVariants.{DataRead, DataWrite}
+use Rattle.std.specs.Prelude.{◌≡◌, true, false, [], Some, None, Ok, Err}
+use Rattle.operations.specs.declared.kind.Kind.TheVariants.{DataRead}
 use Rattle.clock.specs.Rows.{clock_room}
 use Rattle.arrow.specs.Arrows.{arrow_room}
 use Rattle.examination.specs.declared.fault.ExamFault.TheVariants.{WordDiffers}

@@ -1,5 +1,4 @@
-use Rattle.std.proofs.Common.{◌≡◌, ◌∙◌, ap₂}
-use Rattle.keepers.specs.Asking.{order}
+use Rattle.std.proofs.Common.{◌∙◌, ap₂}
 use Rattle.agreement.specs.Agreement.{same_answer}
 use Rattle.agreement.proofs.Alike.{given_alike, made_same}
 use Rattle.agreement.proofs.answer_alike.Goals as goal

@@ -1,4 +1,4 @@
-use Rattle.std.proofs.Common.{◌≡◌, Ok, Err, sym, refl, ap, ◌∙◌}
+use Rattle.std.proofs.Common.{Ok, Err, sym, refl, ap, ◌∙◌}
 use Rattle.examination.specs.declared.fault.ExamFault.TheVariants.{CountDiffers}
 use Rattle.examination.specs.Asking.{from_keeper}
 use Rattle.std.proofs.lemmas.Result.{err_from_is_err_and}

@@ -1,4 +1,4 @@
-use Rattle.std.proofs.Common.{◌≡◌, ◌-◌, sym, ◌∙◌, arith}
+use Rattle.std.proofs.Common.{◌-◌, ◌∙◌, arith}
 use Rattle.operations.specs.Events.{event}
 use Rattle.operations.specs.Rules.{pairing}
 use Rattle.operations.proofs.Prefixes.{release_prefix}

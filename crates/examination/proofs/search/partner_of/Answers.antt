@@ -1,8 +1,8 @@
-use Rattle.std.proofs.Common.{◌≡◌, ℕ, ◌-◌, ◌<◌, ◌≤◌, Bool, true, false, ◌&&◌, length, sym, refl, ap, ◌∙◌, ap₂, arith}
+use Rattle.std.proofs.Common.{◌≡◌, ℕ, ◌-◌, ◌<◌, true, false, length, sym, ap, ◌∙◌, ap₂, arith}
 use Rattle.std.proofs.lemmas.Bool.{and_left, and_right, and_from}
 use Rattle.keepers.specs.Meaning.{Meaning}
-use Rattle.operations.specs.Events.{Event, event, events, at}
-use Rattle.operations.specs.Races.{races, may_race, unordered, racing_partner}
+use Rattle.operations.specs.Events.{Event, events, at}
+use Rattle.operations.specs.Races.{races, may_race, unordered}
 use Rattle.operations.proofs.Searching.{such_hit, such_miss, at_events}
 use Rattle.examination.proofs.search.partner_of.Goals as goal
 use Rattle.examination.proofs.search.partner_of.Goals.{else-may_race-via-then-may_race+else-unordered, else-may_race-via-else-may_race}

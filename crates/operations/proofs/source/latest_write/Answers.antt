@@ -1,5 +1,5 @@
-use Rattle.std.proofs.Common.{◌≡◌, ◌-◌, ◌<◌, length, sym, ap, ◌∙◌, arith}
-use Rattle.operations.specs.Events.{Event, events, event, at}
+use Rattle.std.proofs.Common.{◌-◌, ◌<◌, length, sym, ap, ◌∙◌, arith}
+use Rattle.operations.specs.Events.{events, at}
 use Rattle.operations.specs.Sources.{writes_to}
 use Rattle.operations.proofs.Searching.{such_hit, such_miss, at_events}
 use Rattle.operations.proofs.source.latest_write.Goals as goal

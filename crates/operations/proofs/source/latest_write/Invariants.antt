@@ -1,4 +1,4 @@
-use Rattle.std.proofs.Common.{◌≡◌, ◌≤◌, length}
+use Rattle.std.proofs.Common.{◌≡◌, length}
 use Rattle.operations.specs.Events.{events, at}
 use Rattle.operations.specs.Sources.{latest_write}
 use Rattle.operations.proofs.source.latest_write.Given as goal

@@ -1,4 +1,4 @@
-use Rattle.std.proofs.Common.{◌≡◌, true, false, length, sym, ◌∙◌}
+use Rattle.std.proofs.Common.{true, false, length, sym}
 use Rattle.operations.specs.Rules.{pairing}
 use Rattle.operations.specs.Events.{event, events, at}
 use Rattle.operations.proofs.Searching.{at_events, release_at, no_source}

@@ -1,8 +1,8 @@
-use Rattle.std.proofs.Common.{◌≡◌, ℕ, ◌+◌, ◌-◌, ◌<◌, ◌≤◌, min, ◌++◌, length, take, drop, Ok, Err, sym, ap, ◌∙◌, arith, length-take}
+use Rattle.std.proofs.Common.{◌≡◌, ◌+◌, ◌-◌, length, drop, Ok, Err, sym, ap, ◌∙◌, arith, length-take}
 use Rattle.std.proofs.lemmas.Result.{err_from_is_err_and}
 use Rattle.examination.specs.Admission.{setting}
 use Rattle.record_file.specs.Directory.{section_start, section_size, section_bytes}
-use Rattle.record_file.specs.Records.{section_items, sections_items, file_items}
+use Rattle.record_file.specs.Records.{section_items, sections_items}
 use Rattle.record_file.proofs.Items.{sections_more, sections_none, file_fit, file_unfit}
 use Rattle.reader.specs.Examining.{reading}
 use Rattle.reader.specs.Reading.{ended, read}

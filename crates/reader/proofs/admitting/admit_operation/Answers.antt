@@ -1,6 +1,5 @@
-use Rattle.std.proofs.Common.{◌≡◌, Ok, Err, sym, ap, ◌∙◌}
+use Rattle.std.proofs.Common.{Err, sym, ap, ◌∙◌}
 use Rattle.std.proofs.lemmas.Result.{err_from_is_err_and}
-use Rattle.operations.specs.Events.{event}
 use Rattle.examination.specs.Admission.{setting, recorded}
 use Rattle.record_file.specs.declared.fault.FileFault.TheVariants.{Record}
 use Rattle.reader.specs.Examining.{reading}

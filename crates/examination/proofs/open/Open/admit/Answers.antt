@@ -1,9 +1,9 @@
-use Rattle.std.proofs.Common.{◌≡◌, ◌<◌, length, Ok, Err, sym, refl, ap, ◌∙◌, arith, length-set}
+use Rattle.std.proofs.Common.{length, Err, sym, ap, ◌∙◌, arith, length-set}
 use Rattle.std.proofs.lemmas.Result.{err_from_is_err_and}
 use Rattle.operations.specs.Events.{event}
 use Rattle.keepers.specs.Adding.{answered}
 use Rattle.examination.specs.declared.fault.ExamFault.TheVariants.{Keeper}
-use Rattle.examination.specs.Admission.{setting, exam, admission, after_admission, recorded}
+use Rattle.examination.specs.Admission.{setting, exam, recorded}
 use Rattle.examination.proofs.Admitting.{not_checked, refused_by, place_known, count_known, keeper_refuses, number_placed, room_known, number_held, done}
 use Rattle.examination.proofs.Reaching.{admission_exact}
 use Rattle.examination.proofs.open.Open.admit.Goals as goal

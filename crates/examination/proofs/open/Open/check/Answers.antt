@@ -1,8 +1,8 @@
-use Rattle.std.proofs.Common.{◌≡◌, ℕ, ◌-◌, ◌<◌, ◌≤◌, length, sym, ◌∙◌, arith}
+use Rattle.std.proofs.Common.{◌-◌, ◌≤◌, length, sym, ◌∙◌, arith}
 use lib.ListN.{length-map}
-use Rattle.operations.specs.Events.{event, events}
+use Rattle.operations.specs.Events.{event}
 use Rattle.operations.proofs.Prefixes.{fits_prefix}
-use Rattle.examination.specs.Admission.{Exam, exam}
+use Rattle.examination.specs.Admission.{exam}
 use Rattle.examination.proofs.Checking.{short, differs, high, wrong, pass}
 use Rattle.examination.proofs.open.Open.check.Goals as goal
 

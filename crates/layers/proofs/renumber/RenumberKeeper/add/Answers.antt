@@ -1,5 +1,4 @@
-use Rattle.std.proofs.Common.{◌≡◌, ℕ, ◌<◌, sym, ap, ◌∙◌}
-use Rattle.keepers.specs.Meaning.{most_processors}
+use Rattle.std.proofs.Common.{sym, ap, ◌∙◌}
 use Rattle.keepers.specs.Adding.{addition, after_addition}
 use Rattle.layers.specs.Layers.{renumbered}
 use Rattle.layers.proofs.Renaming.{addition_same, after_same, entry_is}
