@@ -1,4 +1,3 @@
-pub mod Pairing
 pub mod Searching
 pub mod Wording
 pub mod Prefixes

@@ -18,6 +18,10 @@ event value o = record { processor = o.processor; kind = o.kind; class = o.class
 abbrev pub events : {W : Type 0} → (W → List ℤ) → List (Operation W) → List Event
 events value os = map (event value) os
 
+-- a place of a record where nothing was written yet, with this initial word
+abbrev pub blank : List ℤ → Event
+blank start = record { processor = 0; kind = DataRead; class = 0; location = 0; word = start }
+
 -- what is read past the end of a record
 abbrev pub nothing : Event
 nothing = record { processor = 0; kind = DataRead; class = 0; location = 0; word = [] }

@@ -1,6 +1,7 @@
 -- What each kind of operation does. Assumes nothing.
-use Rattle.std.specs.Prelude.{ℕ, Bool, true, false, cond, Some, None, Option, ◌==◌}
+use Rattle.std.specs.Prelude.{◌≡◌, ℕ, Bool, true, false, cond, Some, None, Option, Result, ◌==◌, MatchResult}
 use Rattle.operations.specs.declared.kind.Kind.{Kind}
+use Rattle.operations.specs.declared.kind.UnknownKind.{UnknownKind}
 use Rattle.operations.specs.declared.kind.Kind.TheVariants.{DataRead, DataWrite, SyncRead, SyncWrite, Acquire, Release}
 
 abbrev pub reads : Kind → Bool
@@ -63,3 +64,7 @@ kind_of k =
     (cond (k == 3) (Some SyncWrite)
     (cond (k == 4) (Some Acquire)
     (cond (k == 5) (Some Release) None)))))
+
+-- what a conversion of a number answers: the kind whose code it is, or the number itself
+abbrev pub Decodes : ℕ → Result Kind UnknownKind → Type 0
+Decodes code r = MatchResult r (λ kind. kind_of code ≡ Some kind) (λ unknown. (kind_of code ≡ None) × (unknown ≡ record { 0 = code }))

@@ -1,8 +1,8 @@
 ghost use Rattle.std.specs.Prelude.{◌≡◌};
-ghost use Rattle.operations.specs.Kinds.{reads as kind_reads, writes as kind_writes, data_kind, acquire_kind, release_kind, code_of, kind_of};
+ghost use Rattle.operations.specs.Kinds.{reads as kind_reads, writes as kind_writes, data_kind, acquire_kind, release_kind, code_of, Decodes};
 
 // The six kinds of operation; the number of each is its code in a record file.
-#[derive(Clone, Copy, PartialEq)]
+#[derive(Clone, Copy, PartialEq, Eq, Debug)]
 pub enum Kind {
     DataRead = 0,
     DataWrite = 1,
@@ -16,27 +16,37 @@ pub enum Kind {
     Release = 5,
 }
 
-impl Kind {
-    pub fn code(self) -> u8
-        ensures { result ≡ code_of self }
-    {
-        self as u8
-    }
+// A number that is no kind's code.
+#[derive(Clone, Copy, PartialEq, Eq, Debug)]
+pub struct UnknownKind(pub u8);
 
-    pub fn from_code(code: u8) -> Option<Kind>
-        ensures { result ≡ kind_of code }
-    {
+impl From<Kind> for u8 {
+    ghost from_gives = { λ kind code. code ≡ code_of kind };
+
+    fn from(kind: Kind) -> u8 {
+        kind as u8
+    }
+}
+
+impl TryFrom<u8> for Kind {
+    type Error = UnknownKind;
+
+    ghost try_from_gives = { Decodes };
+
+    fn try_from(code: u8) -> Result<Kind, UnknownKind> {
         match code {
-            0 => Some(Kind::DataRead),
-            1 => Some(Kind::DataWrite),
-            2 => Some(Kind::SyncRead),
-            3 => Some(Kind::SyncWrite),
-            4 => Some(Kind::Acquire),
-            5 => Some(Kind::Release),
-            _ => None,
+            0 => Ok(Kind::DataRead),
+            1 => Ok(Kind::DataWrite),
+            2 => Ok(Kind::SyncRead),
+            3 => Ok(Kind::SyncWrite),
+            4 => Ok(Kind::Acquire),
+            5 => Ok(Kind::Release),
+            _ => Err(UnknownKind(code)),
         }
     }
+}
 
+impl Kind {
     pub fn reads(self) -> bool
         ensures { result ≡ kind_reads self }
     {

@@ -20,12 +20,7 @@ impl<'a> MatrixRule<'a> {
     fn row(&self, class: u8) -> u16
         ensures { result ≡ slice_index self.now.rows.now class }
     {
-        let place = class as usize;
-        if place < self.rows.len() {
-            self.rows[place]
-        } else {
-            0
-        }
+        self.rows.get(class as usize).copied().unwrap_or(0)
     }
 }
 

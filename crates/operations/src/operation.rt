@@ -1,5 +1,5 @@
 ghost use Rattle.std.specs.Prelude.{◌≡◌};
-ghost use Rattle.operations.specs.Events.{event};
+ghost use Rattle.operations.specs.Events.{event, blank};
 ghost use Rattle.operations.specs.Races.{conflict as conflict_test, may_race};
 ghost use Rattle.operations.specs.Sources.{writes_to};
 
@@ -7,7 +7,7 @@ use crate::kind::Kind;
 use words::Word;
 
 // One access to shared memory. The class stands for the instruction that made it.
-#[derive(Clone, Copy)]
+#[derive(Clone, Copy, PartialEq, Eq, Debug)]
 pub struct Operation<W> {
     pub processor: u8,
     pub kind: Kind,
@@ -17,6 +17,19 @@ pub struct Operation<W> {
 }
 
 impl<W: Word> Operation<W> {
+    // What a place of a record holds before anything is written there.
+    pub fn blank() -> Operation<W>
+        ensures { event W.Word.value result ≡ blank W.Word.start }
+    {
+        Operation {
+            processor: 0,
+            kind: Kind::DataRead,
+            class: 0,
+            location: 0,
+            word: W::INITIAL,
+        }
+    }
+
     pub fn writes_to(&self, location: u16) -> bool
         ensures { result ≡ writes_to (event W.Word.value self.now) location }
     {

@@ -1,11 +1,11 @@
-ghost use Rattle.std.specs.Prelude.{[], ◌∷◌, pos};
-ghost use Rattle.std.proofs.Common.{lit≤};
+ghost use Rattle.std.specs.Prelude.{[], ◌∷◌, pos, refl};
+ghost use Rattle.std.proofs.Common.{lit≤, rules};
 ghost use Rattle.words.specs.Bytes.{big32};
 
 use crate::word::Word;
 
 // A count: 32 bits unsigned, initially 0.
-#[derive(Clone, Copy)]
+#[derive(Clone, Copy, PartialEq, Eq, Debug)]
 pub struct Count {
     pub number: u32,
 }
@@ -15,23 +15,21 @@ impl Word for Count {
 
     const WIDTH: usize = 4;
 
+    ghost INITIAL = { record { number = 0 } };
+
+    ghost WIDTH = { 4 };
+
+    ghost narrow = { lit≤ tt };
+
     ghost value = { λ w. pos w.number ∷ [] };
 
     ghost start = { pos 0 ∷ [] };
 
-    ghost size = { 4 };
-
-    ghost narrow = { lit≤ tt };
-
     ghost decoded = { λ bs. record { number = big32 bs 0 } };
 
-    fn first_word() -> Count {
-        Self::INITIAL
-    }
+    ghost starts = { refl };
 
-    fn byte_count() -> usize {
-        Self::WIDTH
-    }
+    ghost same = { Prim.search rules };
 
     fn decode(bytes: &[u8]) -> Option<Count> {
         let [a, b, c, d] = bytes else {
@@ -40,9 +38,5 @@ impl Word for Count {
         Some(Count {
             number: u32::from_be_bytes([*a, *b, *c, *d]),
         })
-    }
-
-    fn same(&self, other: &Count) -> bool {
-        self.number == other.number
     }
 }

@@ -1,6 +1,0 @@
-use Rattle.std.proofs.Common.{sym}
-use Rattle.std.proofs.lemmas.List.{get_or_past}
-use Rattle.operations.proofs.matrix.MatrixRule.row.Goals as goal
-
-pub returns-else-place-self : goal.returns-else-place-self
-returns-else-place-self c = sym (get_or_past c.args.self.now.rows.now c.args.class 0 c.if-place-self.false)
