@@ -4,7 +4,7 @@ use clock::ClockKeeper;
 use examination::{Open, Verdict};
 use keepers::{Keeper, Processors};
 use layers::{Allowance, Renumber, RenumberList};
-use operations::{Kind, MatrixRule, Operation, PairingRule, StepRule};
+use operations::{MatrixRule, Operation, PairingRule, StepRule};
 use std::test::Fail;
 use test_checks::{check, check_eq};
 use words::Word;
@@ -74,16 +74,7 @@ enum Pile {
 
 // Wipes a log, so that nothing of an earlier examination is left in it.
 fn wipe<W: Word>(log: &mut [Operation<W>]) {
-    let blank = Operation {
-        processor: 0,
-        kind: Kind::DataRead,
-        class: 0,
-        location: 0,
-        word: W::first_word(),
-    };
-    for k in 0..log.len() {
-        log[k] = blank;
-    }
+    log.fill(Operation::blank());
 }
 
 // Examines a record over a keeper, and compares.

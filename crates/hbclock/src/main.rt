@@ -7,27 +7,16 @@ mod table;
 
 ghost use Rattle.std.specs.Prelude.{◌≤◌, length, IfOk};
 
-use operations::{Kind, Operation};
+use operations::Operation;
 use record_file::{Directory, FileFault, WordType};
 use std::io;
 use std::io::Read;
 use table::{print_refusal, print_run};
-use words::{Count, Edge, Word};
+use words::{Count, Edge};
 
 const MOST_BYTES: usize = 16384;
 
 const PLACES: usize = 1024;
-
-// What a place of the record holds before anything is written there.
-fn blank<W: Word>() -> Operation<W> {
-    Operation {
-        processor: 0,
-        kind: Kind::DataRead,
-        class: 0,
-        location: 0,
-        word: W::first_word(),
-    }
-}
 
 // Fills the front of `room` with what the input has, and answers how much that was.
 fn read_all(input: &mut impl Read, room: &mut [u8]) -> io::Result<usize>
@@ -51,8 +40,8 @@ fn print_file(rt: &HostRuntime, file: &[u8]) -> io::Result<()> {
     }
     match Directory::new(file) {
         Ok(directory) => match directory.word_type() {
-            WordType::Count => print_run(rt, file, &mut [blank::<Count>(); PLACES]),
-            WordType::Edge => print_run(rt, file, &mut [blank::<Edge>(); PLACES]),
+            WordType::Count => print_run(rt, file, &mut [Operation::<Count>::blank(); PLACES]),
+            WordType::Edge => print_run(rt, file, &mut [Operation::<Edge>::blank(); PLACES]),
         },
         Err(fault) => print_refusal(rt, fault),
     }

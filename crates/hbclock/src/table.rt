@@ -25,7 +25,7 @@ fn print_line<W: Word>(
     partner: Option<u16>,
 ) -> io::Result<()> {
     let processor = operation.processor;
-    let kind = operation.kind.code();
+    let kind = u8::from(operation.kind);
     let location = operation.location;
     match partner {
         Some(partner) => println!(rt; "{number} {processor} {kind} {location} {partner}"),

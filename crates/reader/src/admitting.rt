@@ -50,7 +50,7 @@ fn admit_records<W: Word, K: Keeper, R: PairingRule>(
     partners: &mut [Option<u16>],
 ) -> Result<(), FileFault>
     requires { offset + length records.bytes.now < 2 ^ 64 }
-    ensures { ended result (reading log.new (K.Keeper.meaning keeper.new) exam.new partners.new) ≡ read W.Word.value (setting (R.PairingRule.pairs rule.now) W.Word.start) (reading log.old (K.Keeper.meaning keeper.old) exam.old partners.old) (rest_items W.Word.decoded W.Word.size records.entry.processor records.entry.bytes.now offset) }
+    ensures { ended result (reading log.new (K.Keeper.meaning keeper.new) exam.new partners.new) ≡ read W.Word.value (setting (R.PairingRule.pairs rule.now) W.Word.start) (reading log.old (K.Keeper.meaning keeper.old) exam.old partners.old) (rest_items W.Word.decoded W.Word.WIDTH records.entry.processor records.entry.bytes.now offset) }
 {
     let size = record_bytes::<W>();
     let processor = records.processor;
@@ -76,7 +76,7 @@ fn admit_section<W: Word, K: Keeper, R: PairingRule>(
     partners: &mut [Option<u16>],
 ) -> Result<(), FileFault>
     requires { section.offset + length section.bytes.now < 2 ^ 64 }
-    ensures { ended result (reading log.new (K.Keeper.meaning keeper.new) exam.new partners.new) ≡ read W.Word.value (setting (R.PairingRule.pairs rule.now) W.Word.start) (reading log.old (K.Keeper.meaning keeper.old) exam.old partners.old) (section_items W.Word.decoded W.Word.size section.entry.bytes.now section.entry.offset) }
+    ensures { ended result (reading log.new (K.Keeper.meaning keeper.new) exam.new partners.new) ≡ read W.Word.value (setting (R.PairingRule.pairs rule.now) W.Word.start) (reading log.old (K.Keeper.meaning keeper.old) exam.old partners.old) (section_items W.Word.decoded W.Word.WIDTH section.entry.bytes.now section.entry.offset) }
 {
     let records = records_of::<W>(section)?;
     admit_records(
@@ -100,7 +100,7 @@ pub fn admit_file<W: Word, K: Keeper, R: PairingRule>(
     rule: &R,
     partners: &mut [Option<u16>],
 ) -> Result<(), FileFault>
-    ensures { ended result (reading log.new (K.Keeper.meaning keeper.new) exam.new partners.new) ≡ read W.Word.value (setting (R.PairingRule.pairs rule.now) W.Word.start) (reading log.old (K.Keeper.meaning keeper.old) exam.old partners.old) (file_items W.Word.decoded W.Word.size file.now) }
+    ensures { ended result (reading log.new (K.Keeper.meaning keeper.new) exam.new partners.new) ≡ read W.Word.value (setting (R.PairingRule.pairs rule.now) W.Word.start) (reading log.old (K.Keeper.meaning keeper.old) exam.old partners.old) (file_items W.Word.decoded W.Word.WIDTH file.now) }
 {
     let directory = Directory::new(file)?;
     for i in 0..directory.sections() {

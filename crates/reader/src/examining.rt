@@ -20,9 +20,9 @@ pub fn examine<W: Word, K: Keeper, R: PairingRule>(
     rule: &R,
     partners: &mut [Option<u16>],
 ) -> Result<Verdict, FileFault>
-    ensures outcome { record { answer = answered result; log = log.new; keeper = K.Keeper.meaning keeper.new; partners = partners.new } ≡ examined W.Word.value (setting (R.PairingRule.pairs rule.now) W.Word.start) log.old (K.Keeper.meaning keeper.old) partners.old (file_items W.Word.decoded W.Word.size file.now) }
+    ensures outcome { record { answer = answered result; log = log.new; keeper = K.Keeper.meaning keeper.new; partners = partners.new } ≡ examined W.Word.value (setting (R.PairingRule.pairs rule.now) W.Word.start) log.old (K.Keeper.meaning keeper.old) partners.old (file_items W.Word.decoded W.Word.WIDTH file.now) }
     ensures exact { Told (run_of W.Word.value (setting (R.PairingRule.pairs rule.now) W.Word.start) log.new (K.Keeper.meaning keeper.new)) result }
-    ensures complete { held (K.Keeper.meaning keeper.old) ≡ 0 → Listed (operations_in (file_items W.Word.decoded W.Word.size file.now)) (take (held (K.Keeper.meaning keeper.new)) log.new) result }
+    ensures complete { held (K.Keeper.meaning keeper.old) ≡ 0 → Listed (operations_in (file_items W.Word.decoded W.Word.WIDTH file.now)) (take (held (K.Keeper.meaning keeper.new)) log.new) result }
 {
     let mut exam = Open::new(keeper).at(0)?;
     admit_file(file, &mut exam, log, keeper, rule, partners)?;

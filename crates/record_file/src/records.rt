@@ -15,14 +15,14 @@ pub struct Records<'a> {
 
 // How many bytes a record takes.
 pub fn record_bytes<W: Word>() -> usize
-    ensures { result ≡ record_size W.Word.size }
+    ensures { result ≡ record_size W.Word.WIDTH }
 {
-    4 + W::byte_count()
+    4 + W::WIDTH
 }
 
 // Takes a section apart, if it is a processor's byte and whole records.
 pub fn records_of<'a, W: Word>(section: Section<'a>) -> Result<Records<'a>, FileFault>
-    ensures { MatchResult result (λ s. (whole W.Word.size section.entry.bytes.now ≡ true) × (s.processor ≡ slice_index section.entry.bytes.now 0) × (s.bytes.now ≡ drop 1 section.entry.bytes.now)) (λ f. (whole W.Word.size section.entry.bytes.now ≡ false) × (f ≡ FileFault.Section section.entry.offset)) }
+    ensures { MatchResult result (λ s. (whole W.Word.WIDTH section.entry.bytes.now ≡ true) × (s.processor ≡ slice_index section.entry.bytes.now 0) × (s.bytes.now ≡ drop 1 section.entry.bytes.now)) (λ f. (whole W.Word.WIDTH section.entry.bytes.now ≡ false) × (f ≡ FileFault.Section section.entry.offset)) }
 {
     let [processor, bytes @ ..] = section.bytes else {
         return Err(FileFault::Section(section.offset));
@@ -42,13 +42,13 @@ fn operation_at<W: Word>(
     bytes: &[u8],
     offset: usize,
 ) -> Result<Operation<W>, FileFault>
-    requires { length bytes.now ≡ record_size W.Word.size }
+    requires { length bytes.now ≡ record_size W.Word.WIDTH }
     ensures { result ≡ operation_of W.Word.decoded processor bytes.now offset }
 {
     let [kind, class, high, low, word @ ..] = bytes else {
         return unreachable();
     };
-    let Some(kind) = Kind::from_code(*kind) else {
+    let Ok(kind) = Kind::try_from(*kind) else {
         return Err(FileFault::Kind(offset));
     };
     let Some(word) = W::decode(word) else {
@@ -70,7 +70,7 @@ pub fn read_record<W: Word>(
     bytes: &[u8],
     offset: usize,
 ) -> Result<Operation<W>, FileFault>
-    ensures { result ≡ record_of W.Word.decoded W.Word.size processor bytes.now offset }
+    ensures { result ≡ record_of W.Word.decoded W.Word.WIDTH processor bytes.now offset }
 {
     if bytes.len() != record_bytes::<W>() {
         return Err(FileFault::Section(offset));

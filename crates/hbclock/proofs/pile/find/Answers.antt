@@ -12,7 +12,7 @@ returns g c =
     let meaning = g.K.Keeper.meaning in
     let below = c.new-pile.result.below.below in
     let is : meaning below ≡ meaning c.args.keeper = ap (λ a. meaning a.below) c.new-pile.ensures.1 ∙ ap meaning c.new.ensures.1 in
-    let items = file_items g.W.Word.decoded g.W.Word.size c.args.file.now in
+    let items = file_items g.W.Word.decoded g.W.Word.WIDTH c.args.file.now in
     record {
       outcome = search rules;
       exact = subst (λ (n : ℕ). Told (run_listed g.W.Word.value c.examine-verdict.new.log n) c.examine-verdict.result) (sym c.count-admitted.ensures) c.examine-verdict.ensures.exact;
