@@ -2,54 +2,46 @@
 // and the verdict.
 #![tactic(auto)]
 
+mod lines;
 mod pile;
 mod table;
 
-ghost use Rattle.std.specs.Prelude.{◌≤◌, length, IfOk};
-
+use lines::Ending;
 use operations::Operation;
 use record_file::{Directory, FileFault, WordType};
 use std::io;
 use std::io::Read;
-use table::{print_refusal, print_run};
+use table::{PLACES, print_run};
 use words::{Count, Edge};
 
 const MOST_BYTES: usize = 16384;
 
-const PLACES: usize = 1024;
-
-// Fills the front of `room` with what the input has, and answers how much that was.
-fn read_all(input: &mut impl Read, room: &mut [u8]) -> io::Result<usize>
-    ensures { IfOk result (λ n. n ≤ length room.old) }
-{
-    let mut len = 0;
-    while len < room.len() {
-        let got = input.read(&mut room[len..])?;
-        if got == 0 {
-            break;
-        }
-        len += got;
+// The type of the words in a file that is not too long and whose directory is fit.
+fn word_type(file: &[u8]) -> Result<WordType, FileFault> {
+    if file.len() > MOST_BYTES {
+        return Err(FileFault::Header);
     }
-    Ok(len)
+    let directory = Directory::new(file)?;
+    Ok(directory.word_type())
 }
 
 // Prints what there is to say of a file, after the first line.
 fn print_file(rt: &HostRuntime, file: &[u8]) -> io::Result<()> {
-    if file.len() > MOST_BYTES {
-        return print_refusal(rt, FileFault::Header);
-    }
-    match Directory::new(file) {
-        Ok(directory) => match directory.word_type() {
-            WordType::Count => print_run(rt, file, &mut [Operation::<Count>::blank(); PLACES]),
-            WordType::Edge => print_run(rt, file, &mut [Operation::<Edge>::blank(); PLACES]),
-        },
-        Err(fault) => print_refusal(rt, fault),
+    match word_type(file) {
+        Ok(WordType::Count) => print_run(rt, file, &mut [Operation::<Count>::blank(); PLACES]),
+        Ok(WordType::Edge) => print_run(rt, file, &mut [Operation::<Edge>::blank(); PLACES]),
+        Err(fault) => {
+            let ending = Ending::from(fault);
+            println!(rt; "{ending}")
+        }
     }
 }
 
 fn main(rt: HostRuntime) -> io::Result<()> {
-    let mut file = [0u8; MOST_BYTES + 1];
-    let len = read_all(&mut rt.stdin(), &mut file)?;
+    let mut file = Vec::new(rt.alloc());
+    rt.stdin()
+        .take(MOST_BYTES as u64 + 1)
+        .read_to_end(&mut file)?;
     println!(rt; "op proc kind loc partner")?;
-    print_file(&rt, &file[0..len])
+    print_file(&rt, &file)
 }

@@ -1,53 +1,31 @@
+use crate::lines::{Ending, Line};
 use crate::pile::{Finding, find};
 use clock::ClockKeeper;
-use examination::Verdict;
-use keepers::{Adds, Processors};
+use keepers::Processors;
 use operations::Operation;
-use record_file::FileFault;
 use std::io;
 use words::Word;
 
-// The last line of a refused file.
-pub(crate) fn print_refusal(rt: &HostRuntime, fault: FileFault) -> io::Result<()> {
-    let refusal = fault.refusal();
-    let number = refusal.number;
-    let Adds::Offset(offset) = refusal.adds else {
-        return unreachable();
-    };
-    println!(rt; "refused {number} {offset}")
-}
+// How many places the record has.
+pub(crate) const PLACES: usize = 1024;
 
-// The line of an operation.
-fn print_line<W: Word>(
+// The line of each admitted operation.
+fn print_lines<W>(
     rt: &HostRuntime,
-    number: usize,
-    operation: &Operation<W>,
-    partner: Option<u16>,
+    log: &[Operation<W>],
+    partners: &[Option<u16>],
+    admitted: u16,
 ) -> io::Result<()> {
-    let processor = operation.processor;
-    let kind = u8::from(operation.kind);
-    let location = operation.location;
-    match partner {
-        Some(partner) => println!(rt; "{number} {processor} {kind} {location} {partner}"),
-        None => println!(rt; "{number} {processor} {kind} {location} -"),
+    let rows = log.iter().zip(partners).enumerate();
+    for (number, (operation, partner)) in rows.take(admitted as usize) {
+        let line = Line {
+            number,
+            operation,
+            partner: *partner,
+        };
+        println!(rt; "{line}")?;
     }
-}
-
-// The last line of an examined file.
-fn print_verdict(rt: &HostRuntime, verdict: Verdict) -> io::Result<()> {
-    match verdict {
-        Verdict::RaceFree(free) => {
-            let admitted = free.admitted();
-            println!(rt; "race-free {admitted}")
-        }
-        Verdict::Racy(racy) => {
-            let count = racy.racing();
-            let first = racy.first();
-            let partner = first.partner;
-            let operation = first.operation;
-            println!(rt; "racy {count} {partner} {operation}")
-        }
-    }
+    Ok(())
 }
 
 // Examines a file whose words are of type W, in a lent record, and prints all but the first line.
@@ -56,19 +34,17 @@ pub(crate) fn print_run<W: Word>(
     file: &[u8],
     log: &mut [Operation<W>],
 ) -> io::Result<()> {
-    let mut partners = [None; 1024];
+    let mut partners = [None; PLACES];
     let mut numbers = [0u16; 2560];
     let Ok(four) = Processors::new(4) else {
         return unreachable();
     };
     let keeper = ClockKeeper::new(four, &mut numbers);
     let Finding { verdict, admitted } = find(file, log, &mut partners, keeper);
-    let lines = log.iter().zip(partners.iter()).enumerate();
-    for (number, (operation, partner)) in lines.take(admitted as usize) {
-        print_line(rt, number, operation, *partner)?;
-    }
-    match verdict {
-        Ok(verdict) => print_verdict(rt, verdict),
-        Err(fault) => print_refusal(rt, fault),
-    }
+    print_lines(rt, log, &partners, admitted)?;
+    let ending = match verdict {
+        Ok(verdict) => Ending::from(verdict),
+        Err(fault) => Ending::from(fault),
+    };
+    println!(rt; "{ending}")
 }
