@@ -4,3 +4,4 @@ pub mod Made
 pub mod Adding
 pub mod Asking
 pub mod Prefix
+pub mod Extent
