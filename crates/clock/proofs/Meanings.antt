@@ -1,15 +1,12 @@
 -- What a clock keeper's meaning answers, and what a new row makes of it. Assumes nothing.
-use Rattle.std.proofs.Common.{◌≡◌, ℕ, ◌+◌, ◌-◌, ◌*◌, ◌<◌, ◌≤◌, max, Bool, true, false, cond, not, ◌&&◌, ◌||◌, eqb, ltb, leb, ◌⊎◌, List, [], ◌∷◌, ◌++◌, map, get_or, Some, None, Ok, Err, Option, sym, refl, ap, ◌∙◌, subst, inl, inr, ⊎_elim, le_refl, arith}
+use Rattle.std.proofs.Common.{◌≡◌, ℕ, ◌+◌, ◌-◌, ◌*◌, ◌<◌, ◌≤◌, max, Bool, true, false, cond, not, ◌&&◌, ◌||◌, eqb, ltb, leb, ◌⊎◌, List, [], ◌∷◌, ◌++◌, map, get_or, Some, None, Ok, Option, sym, refl, ap, ◌∙◌, subst, inl, inr, ⊎_elim, le_refl, arith}
 use mathlib.Core.Path.{fun_ext}
-use Rattle.std.specs.List.{range_with_len}
+use Rattle.std.specs.List.{range_with_len, SameBelow}
 use Rattle.std.proofs.lemmas.List.FromFn.{length-map-range_with_len, get_or-map-range_with_len, map-range_with_len_more, fill_by_all}
 use Rattle.std.proofs.lemmas.Bool.{cases_lt, cases_eq, lt-ltb, le-ltb, ltb-true, eq-eqb, ne_eqb}
 use Rattle.std.proofs.lemmas.Bool.Decides.{nat_tests}
 use Rattle.keepers.specs.Meaning.{Meaning, held, empty}
 use Rattle.keepers.specs.Adding.{latest_of, Among, latest, reaches, added, addition, outcome}
-use Rattle.keepers.specs.Asking.{order}
-use Rattle.keepers.specs.Prefix.{Same}
-use Rattle.keepers.specs.declared.fault.KeeperFault.TheVariants.{NotHeld}
 use Rattle.keepers.proofs.Latest.{latest_among, latest_same}
 use Rattle.keepers.proofs.Accepting.{given_among, passed}
 use Rattle.clock.specs.Rows.{processor_of, count_of, own_count, latest_count, Sound, counts, clock_before, clock, count_from, new_count}
@@ -65,18 +62,9 @@ module _ (xs : List ℕ) (m n capacity : ℕ) where
         omega (arith, a.1.room),
       )
 
-  -- what is answered to an order question
-  pub order_held : (a b : ℕ) (r : Bool) → a < n → b < n → r ≡ counts xs m a b → Ok r ≡ order M a b
-  order_held a b r h k w =
-      let t : ltb a n ≡ true = lt-ltb a n h in
-      let u : ltb b n ≡ true = lt-ltb b n k in
-      let e : held M ≡ n = held_is in
-      simp (e, t, u) (ap Ok w)
-
-  pub order_not : (a b : ℕ) → (n ≤ a) ⊎ (n ≤ b) → order M a b ≡ Err NotHeld
-  order_not a b h =
-      let t : (ltb a (held M) && ltb b (held M)) ≡ false = ⊎_elim (λ f. let u : ltb a (held M) ≡ false = le-ltb a (held M) (omega (arith, held_is)) in simp u) (λ f. let u : ltb b (held M) ≡ false = le-ltb b (held M) (omega (arith, held_is)) in simp u (and_false (ltb a (held M)))) h in
-      simp t
+  -- which of two held operations is before the other
+  pub held_before : (a b : ℕ) → a < n → b < n → counts xs m a b ≡ M.before a b
+  held_before a b h k = let t : ltb a n ≡ true = lt-ltb a n h in let u : ltb b n ≡ true = lt-ltb b n k in simp (t, u)
 
   -- a is before the operation that is given or is it, when that operation counts a
   pub reaches_is : Sound xs m n → (a : ℕ) (o : Option ℕ) → Among o n → reaches M a o ≡ (ltb a n && leb (own_count xs m a) (count_from xs m o (processor_of xs m a)))
@@ -84,7 +72,7 @@ module _ (xs : List ℕ) (m n capacity : ℕ) where
   reaches_is s a (Some k) h = some_reaches a k n (own_count xs m a) (count_of xs m k (processor_of xs m a)) h (λ e. subst (λ z. own_count xs m a ≤ count_of xs m z (processor_of xs m a)) e (le_refl _))
 
 -- rows ys are rows xs and one more, of the processor p with a giver
-module _ (xs ys : List ℕ) (m n capacity p : ℕ) (giver : Option ℕ) (s : Sound xs m n) (given : Among giver n) (admitted : p < m) (same : Same xs ys (n * (m + 1))) (named : processor_of ys m n ≡ p) (joined : (q : ℕ) → q < m → count_of ys m n q ≡ new_count xs m p (latest_of (processor_of xs m) p n) giver q) where
+module _ (xs ys : List ℕ) (m n capacity p : ℕ) (giver : Option ℕ) (s : Sound xs m n) (given : Among giver n) (admitted : p < m) (same : SameBelow xs ys (n * (m + 1))) (named : processor_of ys m n ≡ p) (joined : (q : ℕ) → q < m → count_of ys m n q ≡ new_count xs m p (latest_of (processor_of xs m) p n) giver q) where
   abbrev old : Meaning
   old = clock xs m n capacity
 

@@ -29,10 +29,10 @@ impl Extent {
         }
     }
 
-    pub fn processors(&self) -> Processors
-        ensures { result ≡ self.now.processors }
+    pub fn processors(&self) -> u8
+        ensures { result ≡ self.now.processors.count }
     {
-        self.processors
+        self.processors.count()
     }
 
     pub fn count(&self) -> u16
