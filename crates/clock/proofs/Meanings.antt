@@ -1,14 +1,14 @@
 -- What a clock keeper's meaning answers, and what a new row makes of it. Assumes nothing.
-use Rattle.std.proofs.Common.{◌≡◌, ℕ, ◌+◌, ◌-◌, ◌*◌, ◌<◌, ◌≤◌, max, Bool, true, false, cond, not, ◌&&◌, ◌||◌, eqb, ltb, leb, ◌⊎◌, List, [], ◌∷◌, ◌++◌, map, get_or, Some, None, Ok, Option, sym, refl, ap, ◌∙◌, subst, inl, inr, ⊎_elim, le_refl, arith}
+use Rattle.std.proofs.Common.{◌≡◌, ℕ, ◌+◌, ◌-◌, ◌*◌, ◌<◌, ◌≤◌, max, Bool, true, false, cond, not, ◌&&◌, ◌||◌, eqb, ltb, leb, ◌⊎◌, List, [], ◌∷◌, ◌++◌, map, get_or, Some, None, Option, sym, refl, ap, ◌∙◌, subst, inl, inr, ⊎_elim, le_refl, arith}
 use mathlib.Core.Path.{fun_ext}
 use Rattle.std.specs.List.{range_with_len, SameBelow}
 use Rattle.std.proofs.lemmas.List.FromFn.{length-map-range_with_len, get_or-map-range_with_len, map-range_with_len_more, fill_by_all}
-use Rattle.std.proofs.lemmas.Bool.{cases_lt, cases_eq, lt-ltb, le-ltb, ltb-true, eq-eqb, ne_eqb}
+use Rattle.std.proofs.lemmas.Bool.{cases_lt, cases_eq, lt-ltb, le-ltb, eq-eqb, ne_eqb}
 use Rattle.std.proofs.lemmas.Bool.Decides.{nat_tests}
 use Rattle.keepers.specs.Meaning.{Meaning, held, empty}
-use Rattle.keepers.specs.Adding.{latest_of, Among, latest, reaches, added, addition, outcome}
+use Rattle.keepers.specs.Adding.{latest_of, Among, latest, reaches, added}
 use Rattle.keepers.proofs.Latest.{latest_among, latest_same}
-use Rattle.keepers.proofs.Accepting.{given_among, passed}
+use Rattle.keepers.proofs.Extents.{Spans}
 use Rattle.clock.specs.Rows.{processor_of, count_of, own_count, latest_count, Sound, counts, clock_before, clock, count_from, new_count}
 use Rattle.clock.proofs.Clocks.{same_processor, same_count, same_own, latest_counts, own_new}
 
@@ -52,15 +52,8 @@ module _ (xs : List ℕ) (m n capacity : ℕ) where
       ap (latest_of (λ k. get_or M.processors k 0) p) held_is
       ∙ latest_same _ (processor_of xs m) p n (λ k h. get_or-map-range_with_len (processor_of xs m) 0 n k k 0 h (omega arith))
 
-  -- what a check that passes says
-  pub checked : (p : ℕ) (o : Option ℕ) → Ok tt ≡ outcome (addition M p o) → (addition M p o ≡ Ok n) × (p < m) × Among o n × (n < capacity)
-  checked p o e =
-      let a = passed M p o e in (
-        a.0 ∙ ap Ok held_is,
-        ltb-true p m a.1.admitted,
-        subst (Among o) held_is (given_among M o a.1.given),
-        omega (arith, a.1.room),
-      )
+  pub clock_spans : Spans M m n capacity
+  clock_spans = record { admits = λ p. refl; size = held_is; room = refl }
 
   -- which of two held operations is before the other
   pub held_before : (a b : ℕ) → a < n → b < n → counts xs m a b ≡ M.before a b

@@ -23,7 +23,7 @@ impl<'a> ClockKeeper<'a> {
             ≡ empty processors.count (clock_room processors.count (length numbers.old)) }
         ensures kept { result.numbers.now ≡ numbers.old }
     {
-        let places = numbers.len() / (processors.count() as usize + 1);
+        let places = numbers.len() / rows::width(processors.count());
         ClockKeeper {
             numbers,
             extent: Extent::new(processors, places),
@@ -64,7 +64,7 @@ impl Keeper for ClockKeeper<'_> {
     fn add(&mut self, processor: u8, giver: Option<u16>) -> Result<u16, KeeperFault> {
         self.check_addition(processor, giver)?;
         let extent = self.extent;
-        let used = extent.count() as usize * rows::width(extent);
+        let used = extent.count() as usize * rows::width(extent.processors());
         let numbers = &mut *self.numbers;
         let (held, free) = numbers.split_at_mut(used);
         let rows = Rows {

@@ -17,10 +17,10 @@ pub(crate) struct Rows<'a> {
 }
 
 // How many numbers a row has.
-pub(crate) fn width(extent: Extent) -> usize
-    ensures { result ≡ extent.processors.count + 1 }
+pub(crate) fn width(processors: u8) -> usize
+    ensures { result ≡ processors + 1 }
 {
-    extent.processors() as usize + 1
+    processors as usize + 1
 }
 
 impl Rows<'_> {
@@ -29,7 +29,7 @@ impl Rows<'_> {
         ensures { let width = self.now.extent.processors.count + 1 in
             result.now ≡ slice_range self.now.numbers.now (operation * width) (operation * width + width) }
     {
-        let width = width(self.extent);
+        let width = width(self.extent.processors());
         let start = operation as usize * width;
         &self.numbers[start..start + width]
     }
