@@ -75,6 +75,7 @@ impl Keeper for ArrowKeeper<'_, '_> {
 
     fn before(&mut self, a: u16, b: u16) -> Result<bool, KeeperFault> {
         self.extent.check_question(a, b)?;
+        // Lent out as a whole: of a loan of the field itself the check keeps only the length.
         let numbers = &mut *self.numbers;
         let arrows = Arrows {
             numbers,

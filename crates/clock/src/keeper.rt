@@ -6,7 +6,7 @@ ghost use Rattle.clock.specs.Rows.{Sound, clock, clock_room};
 use crate::rows::{self, Rows};
 use keepers::{Extent, Keeper, KeeperFault, Processors};
 
-// A keeper over lent numbers, which stand in rows.
+// A keeper over lent numbers, which stand in rows, one for each operation.
 #[derive(Drop)]
 pub struct ClockKeeper<'a> {
     numbers: &'a mut [u16],
@@ -45,9 +45,11 @@ impl ClockKeeper<'_> {
 impl Keeper for ClockKeeper<'_> {
     ghost meaning = { λ s. clock s.numbers.now s.extent.processors.count s.extent.count s.extent.capacity };
 
-    ghost bounded = { λ s. clock_bounded s.numbers.now s.extent.processors.count s.extent.count s.extent.capacity s.extent.filled s.extent.fits };
+    ghost bounded = { λ s. clock_bounded s.numbers.now s.extent.processors.count s.extent.count s.extent.capacity
+        s.extent.filled s.extent.fits };
 
-    ghost numbered = { λ s. clock_numbered s.numbers.now s.extent.processors.count s.extent.count s.extent.capacity s.extent.processors.few };
+    ghost numbered = { λ s. clock_numbered s.numbers.now s.extent.processors.count s.extent.count s.extent.capacity
+        s.extent.processors.few };
 
     fn admits(&self, processor: u8) -> bool {
         self.extent.admits(processor)
@@ -65,6 +67,7 @@ impl Keeper for ClockKeeper<'_> {
         self.check_addition(processor, giver)?;
         let extent = self.extent;
         let used = extent.count() as usize * rows::width(extent.processors());
+        // Lent out as a whole: of a loan of the field itself the check keeps only the length.
         let numbers = &mut *self.numbers;
         let (held, free) = numbers.split_at_mut(used);
         let rows = Rows {

@@ -41,6 +41,7 @@ impl Rows<'_> {
         self.row(operation)[0]
     }
 
+    // How many operations of a processor are before an operation or are it.
     fn count_of(&self, operation: u16, processor: u16) -> u16
         requires held { operation < self.now.extent.count }
         requires admitted { processor < self.now.extent.processors.count }
@@ -55,7 +56,7 @@ impl Rows<'_> {
         requires admitted { processor < self.now.extent.processors.count }
         ensures { result ≡ count_from self.now.numbers.now self.now.extent.processors.count operation processor }
     {
-        // No `map_or`: `search` does not prove that its closure's result is the count.
+        // No `map_or`: the check does not find that the closure's result is the count.
         match operation {
             Some(k) => self.count_of(k, processor as u16),
             None => 0,
@@ -64,9 +65,10 @@ impl Rows<'_> {
 
     // The latest operation of a processor.
     fn latest(&self, processor: u8) -> Option<u16>
-        ensures { result ≡ latest_of (processor_of self.now.numbers.now self.now.extent.processors.count) processor self.now.extent.count }
+        ensures { let processors = self.now.extent.processors.count in
+            result ≡ latest_of (processor_of self.now.numbers.now processors) processor self.now.extent.count }
     {
-        // No chain: `search` does not prove what `rev` and `find` over a range find.
+        // No `rev().find(..)`: the check does not find which number of a range it answers.
         for k in (0..self.extent.count()).rev() {
             if self.processor_of(k) == processor as u16 {
                 return Some(k);
