@@ -1,20 +1,17 @@
 -- What a clock keeper's meaning answers, and what a new row makes of it. Assumes nothing.
 use Rattle.std.proofs.Common.{◌≡◌, ℕ, ◌+◌, ◌-◌, ◌*◌, ◌<◌, ◌≤◌, max, Bool, true, false, cond, not, ◌&&◌, ◌||◌, eqb, ltb, leb, ◌⊎◌, List, [], ◌∷◌, ◌++◌, map, get_or, Some, None, Option, sym, refl, ap, ◌∙◌, subst, inl, inr, ⊎_elim, le_refl, arith}
 use mathlib.Core.Path.{fun_ext}
+use Rattle.std.proofs.Math.Bool.{and-false}
 use Rattle.std.specs.List.{range_with_len, SameBelow}
 use Rattle.std.proofs.lemmas.List.FromFn.{length-map-range_with_len, get_or-map-range_with_len, map-range_with_len_more, fill_by_all}
 use Rattle.std.proofs.lemmas.Bool.{cases_lt, cases_eq, lt-ltb, le-ltb, eq-eqb, ne_eqb}
 use Rattle.std.proofs.lemmas.Bool.Decides.{nat_tests}
-use Rattle.keepers.specs.Meaning.{Meaning, held, empty}
+use Rattle.keepers.specs.Meaning.{Meaning, held}
 use Rattle.keepers.specs.Adding.{latest_of, Among, latest, reaches, added}
 use Rattle.keepers.proofs.Latest.{latest_among, latest_same}
 use Rattle.keepers.proofs.Extents.{Spans}
 use Rattle.clock.specs.Rows.{processor_of, count_of, own_count, latest_count, Sound, counts, clock_before, clock, count_from, new_count}
 use Rattle.clock.proofs.Clocks.{same_processor, same_count, same_own, latest_counts, own_new}
-
-and_false : (x : Bool) → (x && false) ≡ false
-and_false true = refl
-and_false false = refl
 
 -- tests on numbers: reaching no operation, and reaching operation k
 none_reaches : (a n o : ℕ) → (a < n → 0 < o) → false ≡ (ltb a n && leb o 0)
@@ -38,7 +35,7 @@ not_held : (a b n : ℕ) (x y : Bool) → n ≤ b → (b ≡ n → ⊥) → ((lt
 not_held a b n x y l ne =
     let t : ltb b (n + 1) ≡ false = le-ltb b (n + 1) (omega arith) in
     let u : ltb b n ≡ false = le-ltb b n l in
-    ap (λ z. (ltb a (n + 1) && z) && x) t ∙ ap (λ z. z && x) (and_false (ltb a (n + 1))) ∙ sym (ap (λ z. (ltb a n && z) && y) u ∙ ap (λ z. z && y) (and_false (ltb a n)))
+    ap (λ z. (ltb a (n + 1) && z) && x) t ∙ ap (λ z. z && x) (and-false (ltb a (n + 1))) ∙ sym (ap (λ z. (ltb a n && z) && y) u ∙ ap (λ z. z && y) (and-false (ltb a n)))
 
 module _ (xs : List ℕ) (m n capacity : ℕ) where
   abbrev M : Meaning
@@ -150,7 +147,3 @@ module _ (xs ys : List ℕ) (m n capacity p : ℕ) (giver : Option ℕ) (s : Sou
 
   pub added_is : clock ys m (n + 1) capacity ≡ added old p giver
   added_is = λ i. record { admits = λ q. ltb q m; processors = added_processors i; before = added_order i; room = added_room i }
-
--- no rows are an empty keeper
-pub empty_is : (xs : List ℕ) (m room : ℕ) → clock xs m 0 room ≡ empty m room
-empty_is xs m room = λ i. record { admits = λ p. ltb p m; processors = []; before = fun_ext {f = clock_before xs m 0} {g = λ a b. false} (λ a. fun_ext (λ b. ap (λ t. (t && ltb b 0) && counts xs m a b) (le-ltb a 0 (omega arith)))) i; room = (let e : room - 0 ≡ room = omega arith in e) i }
