@@ -8,22 +8,13 @@ scan t r zero = false
 scan t r (suc k) = (t k && r k) || scan t r k
 
 or_swap : (x y z : Bool) → (x || (y || z)) ≡ (y || (x || z))
-or_swap true true z = refl
-or_swap true false z = refl
-or_swap false true z = refl
-or_swap false false z = refl
+or_swap x y z = grind arith
 
 or_again : (e r s : Bool) → (r || s) ≡ (r || ((e && r) || s))
-or_again true true s = refl
-or_again true false s = refl
-or_again false true s = refl
-or_again false false s = refl
+or_again e r s = grind arith
 
 or_less : (e g r s : Bool) → ((e && (g || r)) || s) ≡ ((e && (g || r)) || ((e && r) || s))
-or_less true true r s = refl
-or_less true false true s = refl
-or_less true false false s = refl
-or_less false g r s = refl
+or_less e g r s = grind arith
 
 -- the same tests
 pub scan_same : (t u r s : ℕ → Bool) (n : ℕ) → ((k : ℕ) → k < n → t k ≡ u k) → ((k : ℕ) → k < n → r k ≡ s k) → scan t r n ≡ scan u s n

@@ -1,5 +1,6 @@
 -- What following the arrows backwards from one operation to another finds. Assumes nothing.
 use Rattle.std.proofs.Common.{◌≡◌, ℕ, zero, suc, ◌+◌, ◌*◌, ◌<◌, ◌≤◌, Bool, true, false, cond, ◌&&◌, ◌||◌, eqb, ltb, ◌⊎◌, List, length, get_or, set, Some, None, Option, sym, refl, ap, ◌∙◌, subst, inl, inr, ⊎_elim, arith, length-set, get_or-set_other, get_or-set_same}
+use Rattle.std.proofs.Math.Bool.{or-false}
 use Rattle.std.proofs.lemmas.List.{get_or_append_left, get_or_push}
 use Rattle.std.proofs.lemmas.Bool.{cases_lt, cases_eq, le-leb, lt-leb, lt-ltb, le-ltb, eq-eqb, ne_eqb, and_left}
 use Rattle.keepers.specs.Meaning.{Meaning, held, most_processors}
@@ -96,12 +97,11 @@ abbrev pub ClearOutside : List ℕ → ℕ → ℕ → Type 0
 ClearOutside ms a n = (i : ℕ) → i < length ms → (i < a) ⊎ (n ≤ i) → get_or ms i 0 ≡ 0
 
 -- tests on what is found
+and_true : (x : Bool) → ((x && true) || false) ≡ x
+and_true x = grind arith
+
 both_arrows : (g l s t u v : Bool) → (u || v) ≡ true → ((g || s) || (l || t)) ≡ (((u && (g || l)) || s) || ((v && (g || l)) || t))
 both_arrows g l s t u v h = grind arith
-
-or_false : (x : Bool) → (x || false) ≡ x
-or_false true = refl
-or_false false = refl
 
 -- following the arrows backwards to operation a, where N operations are held
 module _ (xs : List ℕ) (m N capacity a : ℕ) where
@@ -162,10 +162,10 @@ module _ (xs : List ℕ) (m N capacity a : ℕ) where
   pub found_start : (ms : List ℕ) (fs : List Bool) (b : ℕ) → a < b → b < length ms → Clear ms → ((p : ℕ) → p < most_processors → is_reached fs p ≡ false) → found (set ms b 1) fs (suc b) ≡ M.before a b
   found_start ms fs b h l c f =
       ap (λ z. scan (is_marked (set ms b 1)) from (suc b) || z) (scan_first (is_reached fs) (from_latest (suc b)) most_processors f)
-      ∙ or_false (scan (is_marked (set ms b 1)) from (suc b))
+      ∙ or-false (scan (is_marked (set ms b 1)) from (suc b))
       ∙ marked_one ms b (suc b) (omega arith) l
       ∙ ap (λ z. from b || z) (scan_first (is_marked ms) from (suc b) (λ k g. ap (λ z. eqb z 1) (c k (omega arith))))
-      ∙ or_false (from b)
+      ∙ or-false (from b)
       ∙ from_later b h
 
   -- what is found from operation k on
@@ -207,12 +207,8 @@ module _ (xs : List ℕ) (m N capacity a : ℕ) where
       ∙ ap (λ z. ((is_marked ms a && true) || false) || ((is_reached fs p && true) || z)) t
       ∙ ap (λ z. z || ((is_reached fs p && true) || false)) (and_true (is_marked ms a))
       ∙ ap (λ z. is_marked ms a || z) (and_true (is_reached fs p))
-    where
-      and_true : (x : Bool) → ((x && true) || false) ≡ x
-      and_true true = refl
-      and_true false = refl
 
--- which marks are 0: at the start, after operation k, and at the end
+-- which marks are 0: at the start, and after operation k
 pub outside_start : (ms : List ℕ) (a b : ℕ) → a < b → Clear ms → ClearOutside (set ms b 1) a (suc b)
 outside_start ms a b h c i l o = get_or-set_other ms b i 1 0 (λ e. ⊎_elim (λ f. omega arith) (λ f. omega arith) o) ∙ c i (omega (arith, length-set ms b 1))
 
@@ -230,6 +226,3 @@ outside_giver ms a k (Some x) h c =
     (λ b. subst (λ t. ClearOutside (cond t (set ms x 1) ms) a k) (sym (lt-leb a x b)) c)
     (λ b. subst (λ t. ClearOutside (cond t (set ms x 1) ms) a k) (sym (le-leb a x b)) (λ i l o. get_or-set_other ms x i 1 0 (λ e. ⊎_elim (λ f. omega arith) (λ f. omega arith) o) ∙ c i (omega (arith, length-set ms x 1)) o))
     (cases_lt x a)
-
-pub outside_end : (ms : List ℕ) (a : ℕ) → a < length ms → ClearOutside ms a (suc a) → Clear (set ms a 0)
-outside_end ms a h c i l = outside_less ms a a h c i l (⊎_elim (λ f. inl f) (λ f. inr f) (cases_lt i a))

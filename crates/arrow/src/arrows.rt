@@ -1,8 +1,12 @@
 ghost use Rattle.std.specs.Prelude.{◌≡◌, ℕ, ◌+◌, ◌*◌, ◌<◌, ◌≤◌, length, ◌==◌, slice_index, slice_set};
-ghost use Rattle.keepers.specs.Meaning.{most_held, most_processors};
-ghost use Rattle.arrow.specs.Arrows.{stored, giver_of, with_giver, arrows, Admitted, Clear};
+ghost use Rattle.keepers.specs.Meaning.{most_processors};
+ghost use Rattle.keepers.specs.Adding.{Among};
+ghost use Rattle.arrow.specs.Arrows.{stored, processor_of, giver_of, with_giver, arrows, Admitted, Clear};
 
-// What is stored for no giver.
+use keepers::Extent;
+use std::mem;
+
+// What is stored for no giver: a lent number is a u16, and has no place for an Option.
 const NO_GIVER: u16 = 65535;
 
 // The number that is stored for a giver.
@@ -12,25 +16,66 @@ pub(crate) fn stored_giver(giver: Option<u16>) -> u16
     giver.unwrap_or(NO_GIVER)
 }
 
-// The giver of operation `k`, if it has one.
-fn giver(numbers: &[u16], k: u16) -> Option<u16>
-    requires { 2 * k + 2 ≤ length numbers.now }
-    ensures { result ≡ giver_of numbers.now k }
-{
-    let number = numbers[2 * k as usize + 1];
-    if number < k { Some(number) } else { None }
+// The two numbers of each operation that is held, lent to be read: its processor and its giver.
+#[derive(Clone, Copy)]
+pub(crate) struct Arrows<'a> {
+    pub(crate) numbers: &'a [u16],
+    pub(crate) extent: Extent,
+    ghost within: { 2 * extent.count ≤ length numbers.now },
+    ghost admitted: { Admitted numbers.now extent.processors.count extent.count },
 }
 
-// Marks the giver of operation `k`, if it has one that is not below `a`.
-fn mark_giver(numbers: &[u16], marks: &mut [u8], a: u16, k: u16)
-    requires within { 2 * k + 2 ≤ length numbers.now }
-    requires marked { k ≤ length marks.old }
-    ensures { marks.new ≡ with_giver marks.old a (giver_of numbers.now k) }
-{
-    if let Some(number) = giver(numbers, k) {
-        if number >= a {
-            marks[number as usize] = 1;
+impl Arrows<'_> {
+    fn processor(&self, operation: u16) -> u16
+        requires { operation < self.now.extent.count }
+        ensures value { result ≡ processor_of self.now.numbers.now operation }
+        ensures few { result < most_processors }
+    {
+        self.numbers[2 * operation as usize]
+    }
+
+    fn giver(&self, operation: u16) -> Option<u16>
+        requires { operation < self.now.extent.count }
+        ensures { result ≡ giver_of self.now.numbers.now operation }
+    {
+        let number = self.numbers[2 * operation as usize + 1];
+        (number < operation).then_some(number)
+    }
+
+    // Whether operation `a` is before the later operation `b`. It goes back from `b` to `a` once: an operation is
+    // reached when it is marked as the giver of a reached one, or a later one of its processor is reached.
+    pub(crate) fn is_before(&self, marks: &mut [u8], a: u16, b: u16) -> bool
+        requires later { a < b }
+        requires held { b < self.now.extent.count }
+        requires marked { b < length marks.old }
+        requires clear { Clear marks.old }
+        ensures clear { Clear marks.new }
+        ensures answer { let extent = self.now.extent in
+            result ≡ (arrows self.now.numbers.now extent.processors.count extent.count extent.capacity).before a b }
+    {
+        let mut reached = [false; 16];
+        marks[b as usize] = 1;
+        for k in (a + 1..b + 1).rev() {
+            let processor = self.processor(k) as usize;
+            let marked = take_mark(marks, k);
+            if marked || reached[processor] {
+                reached[processor] = true;
+                mark_giver(marks, a, self.giver(k));
+            }
         }
+        let marked = take_mark(marks, a);
+        marked || reached[self.processor(a) as usize]
+    }
+}
+
+// Marks a giver, if there is one and it is not below `a`. A mark is a lent byte, 1 or 0.
+fn mark_giver(marks: &mut [u8], a: u16, giver: Option<u16>)
+    requires { Among giver (length marks.old) }
+    ensures { marks.new ≡ with_giver marks.old a giver }
+{
+    match giver {
+        Some(number) if number >= a => marks[number as usize] = 1,
+        _ => (),
     }
 }
 
@@ -40,35 +85,5 @@ fn take_mark(marks: &mut [u8], k: u16) -> bool
     ensures answer { result ≡ (slice_index marks.old k == 1) }
     ensures after { marks.new ≡ slice_set marks.old k 0 }
 {
-    let marked = marks[k as usize] == 1;
-    marks[k as usize] = 0;
-    marked
-}
-
-// Whether operation `a` is before the later operation `b`. It goes back from `b` to `a` once: an operation is
-// reached when it is marked as the giver of a reached one, or a later one of its processor is reached.
-pub(crate) fn is_before(numbers: &mut [u16], marks: &mut [u8], a: u16, b: u16) -> bool
-    requires later { a < b }
-    requires held { b < most_held }
-    requires within { 2 * b + 2 ≤ length numbers.old }
-    requires marked { b < length marks.old }
-    requires admitted { Admitted numbers.old most_processors (b + 1) }
-    requires clear { Clear marks.old }
-    ensures same { numbers.new ≡ numbers.old }
-    ensures clear { Clear marks.new }
-    ensures answer { (m n capacity : ℕ) → b < n → result ≡ (arrows numbers.old m n capacity).before a b }
-{
-    let mut reached = [false; 16];
-    marks[b as usize] = 1;
-    for k in (a + 1..b + 1).rev() {
-        let processor = numbers[2 * k as usize] as usize;
-        let marked = take_mark(marks, k);
-        if marked || reached[processor] {
-            reached[processor] = true;
-            mark_giver(numbers, marks, a, k);
-        }
-    }
-    let processor = numbers[2 * a as usize] as usize;
-    let marked = take_mark(marks, a);
-    marked || reached[processor]
+    mem::replace(&mut marks[k as usize], 0) == 1
 }

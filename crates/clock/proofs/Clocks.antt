@@ -1,19 +1,20 @@
 -- Rows that stay sound: as they are, and with one more. Assumes nothing.
-use Rattle.std.proofs.Common.{◌≡◌, ℕ, zero, suc, ◌+◌, ◌*◌, ◌<◌, ◌≤◌, max, true, false, cond, eqb, List, Some, None, Option, sym, refl, ap, ◌∙◌, subst, ⊎_elim, zero-le, le_refl, add-one, arith}
+use Rattle.std.proofs.Common.{◌≡◌, ℕ, zero, suc, ◌+◌, ◌*◌, ◌<◌, ◌≤◌, max, true, false, cond, eqb, List, ◌++◌, length, get_or, Some, None, Option, sym, refl, ap, ◌∙◌, subst, ⊎_elim, zero-le, le_refl, add-one, arith}
 use lib.Arith.{digits_lt}
+use Rattle.std.specs.List.{SameBelow}
+use Rattle.std.proofs.lemmas.List.{get_or_append_left, get_or-append-add}
 use Rattle.std.proofs.lemmas.Bool.{cases_lt, cases_eq, eq-eqb, ne_eqb}
 use Rattle.keepers.specs.Adding.{latest_of, Among}
-use Rattle.keepers.specs.Prefix.{Same}
-use Rattle.keepers.proofs.Latest.{latest_among}
+use Rattle.keepers.proofs.Latest.{latest_among, latest_same}
 use Rattle.clock.specs.Rows.{processor_of, count_of, own_count, latest_count, Sound, count_from, new_count}
 
 -- two lists with the same first n rows
-module _ (xs ys : List ℕ) (m n : ℕ) (same : Same xs ys (n * (m + 1))) where
+module _ (xs ys : List ℕ) (m n : ℕ) (same : SameBelow xs ys (n * (m + 1))) where
   pub same_processor : (k : ℕ) → k < n → processor_of ys m k ≡ processor_of xs m k
-  same_processor k h = same (k * (m + 1)) (omega (arith, digits_lt {q = k} {m = n} {r = 0} {c = m + 1} h (omega arith)))
+  same_processor k h = same (k * (m + 1)) 0 (omega (arith, digits_lt {q = k} {m = n} {r = 0} {c = m + 1} h (omega arith)))
 
   pub same_count : (k q : ℕ) → k < n → q < m → count_of ys m k q ≡ count_of xs m k q
-  same_count k q h b = same (k * (m + 1) + (q + 1)) (digits_lt {q = k} {m = n} {r = q + 1} {c = m + 1} h (omega arith))
+  same_count k q h b = same (k * (m + 1) + (q + 1)) 0 (digits_lt {q = k} {m = n} {r = q + 1} {c = m + 1} h (omega arith))
 
   pub same_own : (k : ℕ) → k < n → processor_of xs m k < m → own_count ys m k ≡ own_count xs m k
   same_own k h b = ap (count_of ys m k) (same_processor k h) ∙ same_count k (processor_of xs m k) h b
@@ -50,17 +51,12 @@ pub from_small : (xs : List ℕ) (m n : ℕ) → Sound xs m n → (o : Option �
 from_small xs m n s None h q b = zero-le
 from_small xs m n s (Some k) h q b = s.3 k q h b
 
-pub from_same : (xs ys : List ℕ) (m n : ℕ) → Same xs ys (n * (m + 1)) → (o : Option ℕ) → Among o n → (q : ℕ) → q < m → count_from ys m o q ≡ count_from xs m o q
+pub from_same : (xs ys : List ℕ) (m n : ℕ) → SameBelow xs ys (n * (m + 1)) → (o : Option ℕ) → Among o n → (q : ℕ) → q < m → count_from ys m o q ≡ count_from xs m o q
 from_same xs ys m n same None h q b = refl
 from_same xs ys m n same (Some k) h q b = same_count xs ys m n same k q h b
 
--- a new operation counts one more of its own processor
-pub one_more : (q p most v : ℕ) → (q ≡ p → v ≡ most + 1) → ((q ≡ p → ⊥) → v ≡ most) → v ≡ most + cond (eqb q p) 1 0
-one_more q p most v yes-so no-so =
-    ⊎_elim (λ e. yes-so e ∙ ap (λ t. most + cond t 1 0) (sym (eq-eqb q p e))) (λ ne. no-so ne ∙ (omega arith ∙ ap (λ t. most + cond t 1 0) (sym (ne_eqb q p ne)))) (cases_eq q p)
-
 -- rows ys are rows xs and one more, of the processor p with a giver
-module _ (xs ys : List ℕ) (m n p : ℕ) (giver : Option ℕ) (s : Sound xs m n) (given : Among giver n) (admitted : p < m) (same : Same xs ys (n * (m + 1))) (named : processor_of ys m n ≡ p) (joined : (q : ℕ) → q < m → count_of ys m n q ≡ new_count xs m p (latest_of (processor_of xs m) p n) giver q) where
+module _ (xs ys : List ℕ) (m n p : ℕ) (giver : Option ℕ) (s : Sound xs m n) (given : Among giver n) (admitted : p < m) (same : SameBelow xs ys (n * (m + 1))) (named : processor_of ys m n ≡ p) (joined : (q : ℕ) → q < m → count_of ys m n q ≡ new_count xs m p (latest_of (processor_of xs m) p n) giver q) where
   abbrev last : Option ℕ
   last = latest_of (processor_of xs m) p n
 
@@ -106,6 +102,34 @@ module _ (xs ys : List ℕ) (m n p : ℕ) (giver : Option ℕ) (s : Sound xs m n
   pub next_sound : Sound ys m (n + 1)
   next_sound = subst (λ k. Sound ys m k) (sym (add-one n)) next_rows
 
--- the counts of a written row, at the latest operation by its meaning
-pub joined_at : (xs ys : List ℕ) (m n p : ℕ) (l giver : Option ℕ) → l ≡ latest_of (processor_of xs m) p n → ((q : ℕ) → q < m → count_of ys m n q ≡ new_count xs m p l giver q) → (q : ℕ) → q < m → count_of ys m n q ≡ new_count xs m p (latest_of (processor_of xs m) p n) giver q
-joined_at xs ys m n p l giver e j q b = j q b ∙ ap (λ o. new_count xs m p o giver q) e
+-- rows xs, copied to the front of ys, and one more row that is written from the copy
+pub record RowAdded (xs ys : List ℕ) (m n p : ℕ) (giver : Option ℕ) : Type 0 where
+  pub same : SameBelow xs ys (n * (m + 1))
+  pub named : processor_of ys m n ≡ p
+  pub joined : (q : ℕ) → q < m → count_of ys m n q ≡ new_count xs m p (latest_of (processor_of xs m) p n) giver q
+
+module _ (xs held free : List ℕ) (m n k width p : ℕ) (giver : Option ℕ) (count : k ≡ n) (wide : width ≡ m + 1) (same : SameBelow xs held (k * width)) where
+  abbrev first : ℕ
+  first = n * (m + 1)
+
+  used : k * width ≡ first
+  used = cc
+
+  pub same_held : SameBelow xs held first
+  same_held = subst (SameBelow xs held) used same
+
+  free_at : (i j : ℕ) → length held ≡ k * width → i ≡ first + j → get_or (held ++ free) i 0 ≡ get_or free j 0
+  free_at i j size e = rw (e ∙ ap (λ l. l + j) (sym (size ∙ used))) (get_or-append-add held free j 0)
+
+  pub row_added : length held ≡ k * width → Among giver n → get_or free 0 0 ≡ p → ((q : ℕ) → q < m → get_or free (q + 1) 0 ≡ new_count held m p (latest_of (processor_of held m) p n) giver q) → RowAdded xs (held ++ free) m n p giver
+  row_added size given named counted = record {
+    same = λ i d h. get_or_append_left held free d i (omega (arith, used)) ∙ same_held i d h;
+    named = free_at first 0 size (omega arith) ∙ named;
+    joined = λ q b.
+        let r : get_or (held ++ free) (first + (q + 1)) 0 ≡ get_or free (q + 1) 0 = free_at (first + (q + 1)) (q + 1) size (omega arith) in
+        let l = latest_same (processor_of held m) (processor_of xs m) p n (same_processor xs held m n same_held) in
+        let f = from_same xs held m n same_held (latest_of (processor_of xs m) p n) (latest_among (processor_of xs m) p n) q b in
+        let g = from_same xs held m n same_held giver given q b in
+        let c = counted q b in
+        cc;
+  }

@@ -1,23 +1,17 @@
 -- What a clock keeper's meaning answers, and what a new row makes of it. Assumes nothing.
-use Rattle.std.proofs.Common.{◌≡◌, ℕ, ◌+◌, ◌-◌, ◌*◌, ◌<◌, ◌≤◌, max, Bool, true, false, cond, not, ◌&&◌, ◌||◌, eqb, ltb, leb, ◌⊎◌, List, [], ◌∷◌, ◌++◌, map, get_or, Some, None, Ok, Err, Option, sym, refl, ap, ◌∙◌, subst, inl, inr, ⊎_elim, le_refl, arith}
+use Rattle.std.proofs.Common.{◌≡◌, ℕ, ◌+◌, ◌-◌, ◌*◌, ◌<◌, ◌≤◌, max, Bool, true, false, cond, not, ◌&&◌, ◌||◌, eqb, ltb, leb, ◌⊎◌, List, [], ◌∷◌, ◌++◌, map, get_or, Some, None, Option, sym, refl, ap, ◌∙◌, subst, inl, inr, ⊎_elim, le_refl, arith}
 use mathlib.Core.Path.{fun_ext}
-use Rattle.std.specs.List.{range_with_len}
+use Rattle.std.proofs.Math.Bool.{and-false}
+use Rattle.std.specs.List.{range_with_len, SameBelow}
 use Rattle.std.proofs.lemmas.List.FromFn.{length-map-range_with_len, get_or-map-range_with_len, map-range_with_len_more, fill_by_all}
-use Rattle.std.proofs.lemmas.Bool.{cases_lt, cases_eq, lt-ltb, le-ltb, ltb-true, eq-eqb, ne_eqb}
+use Rattle.std.proofs.lemmas.Bool.{cases_lt, cases_eq, lt-ltb, le-ltb, eq-eqb, ne_eqb}
 use Rattle.std.proofs.lemmas.Bool.Decides.{nat_tests}
-use Rattle.keepers.specs.Meaning.{Meaning, held, empty}
-use Rattle.keepers.specs.Adding.{latest_of, Among, latest, reaches, added, addition, outcome}
-use Rattle.keepers.specs.Asking.{order}
-use Rattle.keepers.specs.Prefix.{Same}
-use Rattle.keepers.specs.declared.fault.KeeperFault.TheVariants.{NotHeld}
+use Rattle.keepers.specs.Meaning.{Meaning, held}
+use Rattle.keepers.specs.Adding.{latest_of, Among, latest, reaches, added}
 use Rattle.keepers.proofs.Latest.{latest_among, latest_same}
-use Rattle.keepers.proofs.Accepting.{given_among, passed}
+use Rattle.keepers.proofs.Extents.{Spans}
 use Rattle.clock.specs.Rows.{processor_of, count_of, own_count, latest_count, Sound, counts, clock_before, clock, count_from, new_count}
 use Rattle.clock.proofs.Clocks.{same_processor, same_count, same_own, latest_counts, own_new}
-
-and_false : (x : Bool) → (x && false) ≡ false
-and_false true = refl
-and_false false = refl
 
 -- tests on numbers: reaching no operation, and reaching operation k
 none_reaches : (a n o : ℕ) → (a < n → 0 < o) → false ≡ (ltb a n && leb o 0)
@@ -41,7 +35,7 @@ not_held : (a b n : ℕ) (x y : Bool) → n ≤ b → (b ≡ n → ⊥) → ((lt
 not_held a b n x y l ne =
     let t : ltb b (n + 1) ≡ false = le-ltb b (n + 1) (omega arith) in
     let u : ltb b n ≡ false = le-ltb b n l in
-    ap (λ z. (ltb a (n + 1) && z) && x) t ∙ ap (λ z. z && x) (and_false (ltb a (n + 1))) ∙ sym (ap (λ z. (ltb a n && z) && y) u ∙ ap (λ z. z && y) (and_false (ltb a n)))
+    ap (λ z. (ltb a (n + 1) && z) && x) t ∙ ap (λ z. z && x) (and-false (ltb a (n + 1))) ∙ sym (ap (λ z. (ltb a n && z) && y) u ∙ ap (λ z. z && y) (and-false (ltb a n)))
 
 module _ (xs : List ℕ) (m n capacity : ℕ) where
   abbrev M : Meaning
@@ -55,28 +49,12 @@ module _ (xs : List ℕ) (m n capacity : ℕ) where
       ap (latest_of (λ k. get_or M.processors k 0) p) held_is
       ∙ latest_same _ (processor_of xs m) p n (λ k h. get_or-map-range_with_len (processor_of xs m) 0 n k k 0 h (omega arith))
 
-  -- what a check that passes says
-  pub checked : (p : ℕ) (o : Option ℕ) → Ok tt ≡ outcome (addition M p o) → (addition M p o ≡ Ok n) × (p < m) × Among o n × (n < capacity)
-  checked p o e =
-      let a = passed M p o e in (
-        a.0 ∙ ap Ok held_is,
-        ltb-true p m a.1.admitted,
-        subst (Among o) held_is (given_among M o a.1.given),
-        omega (arith, a.1.room),
-      )
+  pub clock_spans : Spans M m n capacity
+  clock_spans = record { admits = λ p. refl; size = held_is; room = refl }
 
-  -- what is answered to an order question
-  pub order_held : (a b : ℕ) (r : Bool) → a < n → b < n → r ≡ counts xs m a b → Ok r ≡ order M a b
-  order_held a b r h k w =
-      let t : ltb a n ≡ true = lt-ltb a n h in
-      let u : ltb b n ≡ true = lt-ltb b n k in
-      let e : held M ≡ n = held_is in
-      simp (e, t, u) (ap Ok w)
-
-  pub order_not : (a b : ℕ) → (n ≤ a) ⊎ (n ≤ b) → order M a b ≡ Err NotHeld
-  order_not a b h =
-      let t : (ltb a (held M) && ltb b (held M)) ≡ false = ⊎_elim (λ f. let u : ltb a (held M) ≡ false = le-ltb a (held M) (omega (arith, held_is)) in simp u) (λ f. let u : ltb b (held M) ≡ false = le-ltb b (held M) (omega (arith, held_is)) in simp u (and_false (ltb a (held M)))) h in
-      simp t
+  -- which of two held operations is before the other
+  pub held_before : (a b : ℕ) → a < n → b < n → counts xs m a b ≡ M.before a b
+  held_before a b h k = let t : ltb a n ≡ true = lt-ltb a n h in let u : ltb b n ≡ true = lt-ltb b n k in simp (t, u)
 
   -- a is before the operation that is given or is it, when that operation counts a
   pub reaches_is : Sound xs m n → (a : ℕ) (o : Option ℕ) → Among o n → reaches M a o ≡ (ltb a n && leb (own_count xs m a) (count_from xs m o (processor_of xs m a)))
@@ -84,7 +62,7 @@ module _ (xs : List ℕ) (m n capacity : ℕ) where
   reaches_is s a (Some k) h = some_reaches a k n (own_count xs m a) (count_of xs m k (processor_of xs m a)) h (λ e. subst (λ z. own_count xs m a ≤ count_of xs m z (processor_of xs m a)) e (le_refl _))
 
 -- rows ys are rows xs and one more, of the processor p with a giver
-module _ (xs ys : List ℕ) (m n capacity p : ℕ) (giver : Option ℕ) (s : Sound xs m n) (given : Among giver n) (admitted : p < m) (same : Same xs ys (n * (m + 1))) (named : processor_of ys m n ≡ p) (joined : (q : ℕ) → q < m → count_of ys m n q ≡ new_count xs m p (latest_of (processor_of xs m) p n) giver q) where
+module _ (xs ys : List ℕ) (m n capacity p : ℕ) (giver : Option ℕ) (s : Sound xs m n) (given : Among giver n) (admitted : p < m) (same : SameBelow xs ys (n * (m + 1))) (named : processor_of ys m n ≡ p) (joined : (q : ℕ) → q < m → count_of ys m n q ≡ new_count xs m p (latest_of (processor_of xs m) p n) giver q) where
   abbrev old : Meaning
   old = clock xs m n capacity
 
@@ -169,7 +147,3 @@ module _ (xs ys : List ℕ) (m n capacity p : ℕ) (giver : Option ℕ) (s : Sou
 
   pub added_is : clock ys m (n + 1) capacity ≡ added old p giver
   added_is = λ i. record { admits = λ q. ltb q m; processors = added_processors i; before = added_order i; room = added_room i }
-
--- no rows are an empty keeper
-pub empty_is : (xs : List ℕ) (m room : ℕ) → clock xs m 0 room ≡ empty m room
-empty_is xs m room = λ i. record { admits = λ p. ltb p m; processors = []; before = fun_ext {f = clock_before xs m 0} {g = λ a b. false} (λ a. fun_ext (λ b. ap (λ t. (t && ltb b 0) && counts xs m a b) (le-ltb a 0 (omega arith)))) i; room = (let e : room - 0 ≡ room = omega arith in e) i }

@@ -1,6 +1,7 @@
 -- The rows of a clock keeper, and what they mean. Assumes nothing.
-use Rattle.std.specs.Prelude.{ℕ, zero, suc, ◌+◌, ◌-◌, ◌*◌, ◌/◌, ◌<◌, ◌≤◌, min, max, Bool, cond, not, ◌&&◌, List, map, Some, None, Option, ◌==◌, nat_le, nat_lt, slice_index}
+use Rattle.std.specs.Prelude.{ℕ, zero, suc, ◌+◌, ◌-◌, ◌*◌, ◌/◌, ◌<◌, ◌≤◌, min, max, Bool, cond, not, ◌&&◌, List, map, Option, ◌==◌, nat_le, nat_lt, slice_index}
 use Rattle.std.specs.List.{range_with_len}
+use Rattle.std.specs.Option.{option_map_or}
 use Rattle.keepers.specs.Meaning.{Meaning, most_held}
 
 -- A keeper for m processors has a row of m + 1 numbers for each operation: the operation's processor, and then
@@ -66,8 +67,7 @@ clock xs m n capacity = record {
 
 -- the count of q by an operation that may be absent
 abbrev pub count_from : List ℕ → ℕ → Option ℕ → ℕ → ℕ
-count_from xs m None q = 0
-count_from xs m (Some k) q = count_of xs m k q
+count_from xs m o q = option_map_or (λ k. count_of xs m k q) o 0
 
 -- what a new operation of the processor p counts of q: the more of what its processor's latest operation and its
 -- giver count, and itself

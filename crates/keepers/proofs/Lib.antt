@@ -1,3 +1,3 @@
-pub mod Prefix
 pub mod Latest
 pub mod Accepting
+pub mod Extents

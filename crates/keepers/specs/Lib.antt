@@ -3,4 +3,4 @@ pub mod Refusals
 pub mod Made
 pub mod Adding
 pub mod Asking
-pub mod Prefix
+pub mod Extent

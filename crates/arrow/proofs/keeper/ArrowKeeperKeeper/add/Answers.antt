@@ -1,53 +1,64 @@
-use Rattle.std.proofs.Common.{◌≡◌, ◌+◌, ◌*◌, ◌≤◌, length, set, sym, refl, ap, ◌∙◌, arith, length-set, get_or-set_other, get_or-set_same}
+use Rattle.std.proofs.Common.{◌≡◌, ◌+◌, ◌*◌, ◌≤◌, length, set, sym, ap, ◌∙◌, subst, arith, length-set}
+use Rattle.keepers.specs.declared.processors.Processors.{Processors}
 use Rattle.keepers.specs.Adding.{answered}
-use Rattle.keepers.specs.Prefix.{Same}
-use Rattle.keepers.proofs.Prefix.{set_same}
-use Rattle.arrow.specs.Arrows.{processor_of, arrows}
-use Rattle.arrow.proofs.Meanings.{checked, admitted_same, admitted_more, added_is}
+use Rattle.keepers.proofs.Extents.{passes, number_with_room, count_with_room}
+use Rattle.arrow.specs.Arrows.{Admitted, arrows}
+use Rattle.arrow.proofs.Meanings.{arrows_spans, admitted_added, added_is}
 use Rattle.arrow.proofs.keeper.ArrowKeeperKeeper.add.Goals as goal
 
 pub bounds-self-place : goal.bounds-self-place
 bounds-self-place c =
     let s = c.args.self.now in
-    let p = checked s.numbers.now s.processors s.count s.capacity c.args.processor c.args.giver c.in_ok-check_addition.ensures in
-    omega (arith, p.3, s.within)
+    let p = passes _ s.extent.processors.count s.extent.count s.extent.capacity (arrows_spans s.numbers.now s.extent.processors.count s.extent.count s.extent.capacity) c.args.processor c.args.giver c.in_ok-check_addition.ensures in
+    omega (arith, p.room, s.within, c.count.ensures)
 
 pub bounds-self-place-2 : goal.bounds-self-place-2
 bounds-self-place-2 c =
     let s = c.args.self.now in
-    let p = checked s.numbers.now s.processors s.count s.capacity c.args.processor c.args.giver c.in_ok-check_addition.ensures in
-    omega (arith, p.3, s.within, length-set s.numbers.now (2 * s.count) c.args.processor)
+    let p = passes _ s.extent.processors.count s.extent.count s.extent.capacity (arrows_spans s.numbers.now s.extent.processors.count s.extent.count s.extent.capacity) c.args.processor c.args.giver c.in_ok-check_addition.ensures in
+    omega (arith, p.room, s.within, c.count.ensures, length-set s.numbers.now (2 * c.count.result) c.args.processor)
 
 pub invariant_of-self-2 : goal.invariant_of-self-2
 invariant_of-self-2 c =
     let s = c.args.self.now in
-    let n = s.count in
-    let xs = s.numbers.now in
-    let p = checked xs s.processors n s.capacity c.args.processor c.args.giver c.in_ok-check_addition.ensures in
-    let zs = set xs (2 * n) c.args.processor in
-    let ys = set zs (2 * n + 1) c.stored_giver.result in
-    let within : 2 * s.capacity ≤ length ys = omega (arith, s.within, length-set xs (2 * n) c.args.processor, length-set zs (2 * n + 1) c.stored_giver.result) in
-    let same : Same xs ys (2 * n) = set_same xs zs (2 * n + 1) c.stored_giver.result (2 * n) (omega arith) (set_same xs xs (2 * n) c.args.processor (2 * n) (omega arith) (λ i b. refl)) in
-    let named : processor_of ys n ≡ c.args.processor = get_or-set_other zs (2 * n + 1) (2 * n) c.stored_giver.result 0 (omega arith) ∙ get_or-set_same xs (2 * n) c.args.processor 0 (omega (arith, p.3, s.within)) in
+    let e = c.grow.new.self in
+    let m = s.extent.processors.count in
+    let n = s.extent.count in
+    let k = c.count.result in
+    let p = passes _ m n s.extent.capacity (arrows_spans s.numbers.now m n s.extent.capacity) c.args.processor c.args.giver c.in_ok-check_addition.ensures in
+    let zs = set s.numbers.now (2 * k) c.args.processor in
+    let ys = set zs (2 * k + 1) c.stored_giver.result in
+    let size : length ys ≡ length s.numbers.now = omega (arith, length-set s.numbers.now (2 * k) c.args.processor, length-set zs (2 * k + 1) c.stored_giver.result) in
+    let m' : e.processors.count ≡ m = ap (λ (z : Processors). z.count) c.grow.ensures.same.0 in
+    let n' : e.count ≡ n + 1 = c.grow.ensures.count ∙ count_with_room s.extent.capacity n p.room in
+    let rows : 2 * n + 2 ≤ length s.numbers.now = omega (arith, p.room, s.within) in
+    let a : Admitted ys m (n + 1) = subst (λ z. Admitted (set (set s.numbers.now (2 * z) c.args.processor) (2 * z + 1) c.stored_giver.result) m (n + 1)) (sym c.count.ensures) (admitted_added s.numbers.now m n s.extent.capacity c.args.processor c.stored_giver.result rows s.admitted p.admitted) in
     record {
-      few = s.few;
-      fits = s.fits;
-      within = within;
-      marked = s.marked;
-      filled = omega (arith, p.3);
-      admitted = admitted_more ys s.processors n (admitted_same xs ys s.processors n same s.admitted) (omega (arith, named, p.1));
+      within = omega (arith, s.within, size, c.grow.ensures.same.1);
+      marked = omega (arith, s.marked, c.grow.ensures.same.1);
+      admitted = subst (λ z. Admitted ys z e.count) (sym m') (subst (Admitted ys m) (sym n') a);
       clear = s.clear;
     }
 
-pub returns : goal.returns
-returns c =
+pub returns-clause-answer : goal.returns-clause-answer
+returns-clause-answer c =
     let s = c.args.self.now in
-    let n = s.count in
+    let p = passes _ s.extent.processors.count s.extent.count s.extent.capacity (arrows_spans s.numbers.now s.extent.processors.count s.extent.count s.extent.capacity) c.args.processor c.args.giver c.in_ok-check_addition.ensures in
+    c.grow.ensures.answer ∙ number_with_room s.extent.capacity s.extent.count p.room ∙ sym p.answer
+
+pub returns-clause-after : goal.returns-clause-after
+returns-clause-after c =
+    let s = c.args.self.now in
+    let e = c.grow.new.self in
     let xs = s.numbers.now in
-    let p = checked xs s.processors n s.capacity c.args.processor c.args.giver c.in_ok-check_addition.ensures in
-    record {
-      answer = sym p.0;
-      after =
-          added_is xs s.processors n s.capacity c.args.processor c.stored_giver.result c.args.giver (omega (arith, p.3, s.within)) (omega (arith, s.filled, s.fits)) p.2 c.stored_giver.ensures
-          ∙ ap (answered (arrows xs s.processors n s.capacity) c.args.processor c.args.giver) (sym p.0);
-    }
+    let m = s.extent.processors.count in
+    let n = s.extent.count in
+    let v = c.stored_giver.result in
+    let ys = set (set xs (2 * c.count.result) c.args.processor) (2 * c.count.result + 1) v in
+    let p = passes _ m n s.extent.capacity (arrows_spans xs m n s.extent.capacity) c.args.processor c.args.giver c.in_ok-check_addition.ensures in
+    ap (λ (z : Processors). arrows ys z.count e.count e.capacity) c.grow.ensures.same.0
+    ∙ ap (λ z. arrows ys m z e.capacity) (c.grow.ensures.count ∙ count_with_room s.extent.capacity n p.room)
+    ∙ ap (λ z. arrows ys m (n + 1) z) c.grow.ensures.same.1
+    ∙ ap (λ z. arrows (set (set xs (2 * z) c.args.processor) (2 * z + 1) v) m (n + 1) s.extent.capacity) c.count.ensures
+    ∙ added_is xs m n s.extent.capacity c.args.processor v (omega (arith, p.room, s.within)) c.args.giver (omega (arith, s.extent.filled, s.extent.fits)) p.given c.stored_giver.ensures
+    ∙ ap (answered (arrows xs m n s.extent.capacity) c.args.processor c.args.giver) (sym p.answer)

@@ -1,30 +1,26 @@
-use Rattle.std.proofs.Common.{sym, refl, ap, inl, inr}
-use Rattle.arrow.specs.Arrows.{arrows}
-use Rattle.arrow.proofs.Meanings.{order_held, order_not}
+use Rattle.std.proofs.Common.{ltb, sym, ◌∙◌}
+use Rattle.std.proofs.lemmas.Bool.{le-ltb}
+use Rattle.std.proofs.lemmas.Result.{err_from_is_err_and}
+use Rattle.keepers.proofs.Extents.{question_answered, question_refused}
+use Rattle.arrow.proofs.Meanings.{arrows_spans}
 use Rattle.arrow.proofs.Walks.{forward}
 use Rattle.arrow.proofs.keeper.ArrowKeeperKeeper.before.Goals as goal
-use Rattle.arrow.proofs.keeper.ArrowKeeperKeeper.before.Goals.{then-a-self-via-then-a-self, then-a-self-via-else-a-self+then-b-self}
 
-pub returns-then-a-self : goal.returns-then-a-self
-returns-then-a-self c =
+pub returns-in_err-check_question-clause-answer : goal.returns-in_err-check_question-clause-answer
+returns-in_err-check_question-clause-answer c =
     let s = c.args.self.now in
-    record {
-      answer = sym (order_not s.numbers.now s.processors s.count s.capacity c.args.a c.args.b (elim c.then-a-self.branch [ then-a-self-via-then-a-self w ↦ inl w.if-a-self.true | then-a-self-via-else-a-self+then-b-self w ↦ inr w.if-b-self.true ]));
-      after = refl;
-    }
+    let e = s.extent in
+    let p = err_from_is_err_and c.from_residual.result c.from_residual.ensures.1 in
+    rw (p.1, p.2) (question_refused _ _ _ _ (arrows_spans s.numbers.now e.processors.count e.count e.capacity) c.args.a c.args.b _ c.in_err-check_question.ensures)
 
-pub returns-then-a-b : goal.returns-then-a-b
-returns-then-a-b c =
+pub returns-else-a-b-clause-answer : goal.returns-else-a-b-clause-answer
+returns-else-a-b-clause-answer c =
     let s = c.args.self.now in
-    record {
-      answer = order_held s.numbers.now s.processors s.count s.capacity c.args.a c.args.b _ c.if-a-self.false c.if-b-self.false (sym (forward s.numbers.now s.processors s.capacity s.count c.args.a c.args.b c.if-a-b.true));
-      after = refl;
-    }
+    let e = s.extent in
+    question_answered _ _ _ _ (arrows_spans s.numbers.now e.processors.count e.count e.capacity) c.args.a c.args.b (ltb c.args.a c.args.b) c.in_ok-check_question.ensures (le-ltb c.args.a c.args.b c.if-a-b.false ∙ sym (forward s.numbers.now e.processors.count e.capacity e.count c.args.a c.args.b c.if-a-b.false))
 
-pub returns : goal.returns
-returns c =
+pub returns-then-a-b-clause-answer : goal.returns-then-a-b-clause-answer
+returns-then-a-b-clause-answer c =
     let s = c.args.self.now in
-    record {
-      answer = order_held s.numbers.now s.processors s.count s.capacity c.args.a c.args.b _ c.if-a-self.false c.if-b-self.false (c.is_before.ensures.answer s.processors s.count s.capacity c.if-b-self.false);
-      after = ap (λ z. arrows z s.processors s.count s.capacity) c.is_before.ensures.same;
-    }
+    let e = s.extent in
+    question_answered _ _ _ _ (arrows_spans s.numbers.now e.processors.count e.count e.capacity) c.args.a c.args.b c.is_before.result c.in_ok-check_question.ensures c.is_before.ensures.answer

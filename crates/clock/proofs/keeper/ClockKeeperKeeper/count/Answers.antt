@@ -1,6 +1,6 @@
-use Rattle.std.proofs.Common.{sym}
+use Rattle.std.proofs.Common.{sym, ◌∙◌}
 use Rattle.clock.proofs.Meanings.{held_is}
 use Rattle.clock.proofs.keeper.ClockKeeperKeeper.count.Goals as goal
 
 pub returns : goal.returns
-returns c = let s = c.args.self.now in sym (held_is s.numbers.now s.processors s.count s.capacity)
+returns c = let s = c.args.self.now in c.count.ensures ∙ sym (held_is s.numbers.now s.extent.processors.count s.extent.count s.extent.capacity)
