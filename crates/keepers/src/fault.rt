@@ -4,7 +4,7 @@ ghost use Rattle.keepers.specs.Refusals.{keeper_refusal};
 use crate::refusal::{Adds, Refusal};
 
 // Why a keeper refuses; a pile of layers refuses as one keeper.
-#[derive(Clone, Copy, PartialEq, Debug)]
+#[derive(Clone, Copy, PartialEq, Eq, Debug)]
 pub enum KeeperFault {
     Unfit = 1,
     NotAdmitted = 2,
@@ -13,12 +13,12 @@ pub enum KeeperFault {
     NotHeld = 5,
 }
 
-impl KeeperFault {
-    pub fn refusal(self) -> Refusal
-        ensures { result ≡ keeper_refusal self }
-    {
+impl From<KeeperFault> for Refusal {
+    ghost from_gives = { λ f r. r ≡ keeper_refusal f };
+
+    fn from(fault: KeeperFault) -> Refusal {
         Refusal {
-            number: self as u8,
+            number: fault as u8,
             adds: Adds::KeeperLayer,
         }
     }

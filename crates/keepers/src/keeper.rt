@@ -42,10 +42,8 @@ pub trait Keeper {
         if !self.admits(processor) {
             return Err(KeeperFault::NotAdmitted);
         }
-        if let Some(number) = giver {
-            if number >= self.count() {
-                return Err(KeeperFault::GiverNotHeld);
-            }
+        if giver.is_some_and(|number| number >= self.count()) {
+            return Err(KeeperFault::GiverNotHeld);
         }
         if self.room() == 0 {
             return Err(KeeperFault::NoRoom);

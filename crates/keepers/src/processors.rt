@@ -5,7 +5,7 @@ ghost use Rattle.keepers.specs.Made.{processor_count};
 use crate::KeeperFault;
 
 // How many processors a keeper is made for, from 1 to 16.
-#[derive(Clone, Copy)]
+#[derive(Clone, Copy, PartialEq, Eq, Debug)]
 pub struct Processors {
     count: u8,
     ghost some: { 0 < count },

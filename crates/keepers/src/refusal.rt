@@ -1,5 +1,5 @@
 // What a refused call adds to its number: the layer that refused, or a place in the file.
-#[derive(Clone, Copy, PartialEq, Debug)]
+#[derive(Clone, Copy, PartialEq, Eq, Debug)]
 pub enum Adds {
     KeeperLayer,
     ExaminationLayer,
@@ -7,7 +7,7 @@ pub enum Adds {
 }
 
 // How a refused call is reported.
-#[derive(Clone, Copy)]
+#[derive(Clone, Copy, PartialEq, Eq, Debug)]
 pub struct Refusal {
     pub number: u8,
     pub adds: Adds,
