@@ -22,12 +22,12 @@ impl From<KeeperFault> for ExamFault {
     }
 }
 
-impl ExamFault {
-    pub fn refusal(self) -> Refusal
-        ensures { result ≡ exam_refusal self }
-    {
-        let number = match self {
-            ExamFault::Keeper(fault) => return fault.refusal(),
+impl From<ExamFault> for Refusal {
+    ghost from_gives = { λ f r. r ≡ exam_refusal f };
+
+    fn from(fault: ExamFault) -> Refusal {
+        let number = match fault {
+            ExamFault::Keeper(fault) => return Refusal::from(fault),
             ExamFault::CountDiffers => 6,
             ExamFault::RecordShort => 7,
             ExamFault::ClassTooHigh => 8,
