@@ -83,13 +83,13 @@ run_sound G E (c ∷ cs) s = run_sound G (after G E c) cs (after_sound G E c s)
 pub reached_sound : (G : Setting) (E : Exam) → Reached G E → Sound G E
 reached_sound G E r = subst (Sound G) r.leads (run_sound G r.start r.calls (opened_sound G r.start r.opened))
 
+-- order questions
 pub run_count : (G : Setting) (E : Exam) (cs : List Call) → Opened E → held (run G E cs).keeper ≡ (run G E cs).numbers.admitted
 run_count G E cs o = (run_sound G E cs (opened_sound G E o)).keeps.count
 
 pub order_reached : {G : Setting} {E : Exam} {a b : ℕ} → Reached G E → a < E.numbers.admitted → b < E.numbers.admitted → Decides (E.keeper.before a b) (Before (history G E) a b)
 order_reached r h k = (reached_sound _ _ r).keeps.order _ _ h k
 
--- order questions
 pub order_exact : (m : Meaning) (n a b : ℕ) (r : Result Bool ExamFault) → r ≡ order_answer m n a b → OrderExact m n a b r
 order_exact m n a b r is = grind (arith, run_count, order_reached)
 

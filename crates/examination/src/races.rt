@@ -8,7 +8,7 @@ pub struct RacingPair {
 }
 
 // How many operations have a racing partner, which is at least one, and the first of them with its partner.
-#[derive(Clone, Copy)]
+#[derive(Clone, Copy, PartialEq, Eq, Debug)]
 pub struct Races {
     pub(crate) count: u16,
     pub(crate) first: RacingPair,
