@@ -5,7 +5,7 @@ ghost use Rattle.examination.specs.declared.fault.ExamFault.TheVariants.{Keeper 
 use keepers::{Adds, KeeperFault, Refusal};
 
 // Why an examination refuses; a keeper's fault travels inside.
-#[derive(Clone, Copy, PartialEq, Debug)]
+#[derive(Clone, Copy, PartialEq, Eq, Debug)]
 pub enum ExamFault {
     Keeper(KeeperFault),
     CountDiffers,
