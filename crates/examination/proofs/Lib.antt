@@ -1,3 +1,4 @@
+pub mod Shown
 pub mod Checking
 pub mod Admitting
 pub mod Reaching

@@ -1,6 +1,6 @@
 -- What opening and admission answer, and what they make of the record, the keeper and the examination's numbers.
 -- Assumes nothing.
-use Rattle.std.specs.Prelude.{ℕ, Bool, cond, List, length, ℤ, Ok, Err, Option, Result, ◌==◌, nat_lt, slice_set}
+use Rattle.std.specs.Prelude.{ℕ, Bool, cond, List, length, ℤ, Some, None, Ok, Err, Option, Result, ◌==◌, nat_lt, slice_set}
 use Rattle.operations.specs.declared.operation.Operation.{Operation}
 use Rattle.operations.specs.Events.{Event, events, at}
 use Rattle.operations.specs.Races.{racing_partner}
@@ -14,7 +14,8 @@ use Rattle.examination.specs.declared.admission.Admitted.{Admitted}
 use Rattle.examination.specs.declared.fault.ExamFault.{ExamFault}
 use Rattle.examination.specs.declared.fault.ExamFault.TheVariants.{Keeper, CountDiffers, RecordShort, ClassTooHigh, WordDiffers}
 use Rattle.examination.specs.declared.open.Open.{Open}
-use Rattle.examination.specs.Races.{racing, first_pair}
+use Rattle.examination.specs.declared.races.RacingPair.{RacingPair}
+use Rattle.examination.specs.Races.{racing, first_race}
 
 -- the pairing rule and the initial word, by meaning
 pub record Setting : Type 0 where
@@ -31,8 +32,12 @@ pub record Exam : Type 0 where
 abbrev pub setting : (ℕ → ℕ → Bool) → List ℤ → Setting
 setting rule start = record { pairs = pairing rule; start = start }
 
+abbrev pub pair : Option RacingPair → Option (ℕ × ℕ)
+pair None = None
+pair (Some p) = Some (p.partner, p.operation)
+
 abbrev pub tally : Open → Tally
-tally o = record { admitted = o.admitted; racing = racing o.races; first = first_pair o.races }
+tally o = record { admitted = o.admitted; racing = racing o.races; first = pair (first_race o.races) }
 
 abbrev pub exam : {W : Type 0} → (W → List ℤ) → List (Operation W) → Meaning → Open → Exam
 exam value log m o = record { events = events value log; keeper = m; numbers = tally o }

@@ -1,7 +1,6 @@
 -- What closing says. Assumes nothing.
 use Rattle.std.specs.Prelude.{ℕ, cond, Some, None, Option, ◌==◌}
 use Rattle.laws.specs.Tally.{Tally}
-use Rattle.examination.specs.Races.{pair}
 use Rattle.examination.specs.declared.closing.Verdict.{Verdict}
 use Rattle.examination.specs.declared.closing.Verdict.TheVariants.{RaceFree, Racy}
 
@@ -20,4 +19,4 @@ closing t = cond (t.racing == 0) (race_free t.admitted) (racy t.admitted t.racin
 
 abbrev pub said : Verdict → Said
 said (RaceFree s) = race_free s.admitted
-said (Racy s) = racy s.admitted s.races.count (pair s.races.first)
+said (Racy s) = racy s.admitted s.races.count (s.races.first.partner, s.races.first.operation)

@@ -8,11 +8,7 @@ abbrev pub racing : Option Races → ℕ
 racing None = 0
 racing (Some r) = r.count
 
--- the partner and the operation
-abbrev pub pair : RacingPair → ℕ × ℕ
-pair p = (p.partner, p.operation)
-
--- the first pair, if there is one
-abbrev pub first_pair : Option Races → Option (ℕ × ℕ)
-first_pair None = None
-first_pair (Some r) = Some (pair r.first)
+-- the first of them with its partner, if there is one
+abbrev pub first_race : Option Races → Option RacingPair
+first_race None = None
+first_race (Some r) = Some r.first

@@ -1,7 +1,6 @@
 use Rattle.std.proofs.Common.{rules}
 use Rattle.examination.specs.Admission.{tally}
 use Rattle.examination.specs.Closing.{race_free, racy}
-use Rattle.examination.specs.Races.{pair}
 use Rattle.examination.proofs.Reaching.{verdict_exact}
 use Rattle.examination.proofs.open.Open.close.Goals as goal
 
@@ -11,4 +10,4 @@ returns-in-None-clause-exact c = verdict_exact (tally c.args.self) (race_free c.
 pub returns-in-Some-clause-exact : goal.returns-in-Some-clause-exact
 returns-in-Some-clause-exact c =
     let r = c.in-Some.races in
-    verdict_exact (tally c.args.self) (racy c.args.self.admitted r.count (pair r.first)) (search rules)
+    verdict_exact (tally c.args.self) (racy c.args.self.admitted r.count (r.first.partner, r.first.operation)) (search rules)
