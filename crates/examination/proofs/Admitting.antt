@@ -1,13 +1,12 @@
 -- An admission is refused and changes nothing, or its checks and the keeper's have passed. Assumes nothing.
-use Rattle.std.proofs.Common.{◌≡◌, ℕ, suc, ◌<◌, ◌⊎◌, List, length, set, ℤ, Some, None, Ok, Err, Option, Result, sym, refl, ap, ◌∙◌, subst, ap₂, inl, inr, add-one, arith}
-use lib.ListN.{length-map}
-use Rattle.std.proofs.lemmas.List.{map-set, length_push}
+use Rattle.std.proofs.Common.{◌≡◌, ℕ, suc, ◌⊎◌, List, set, ℤ, Some, None, Ok, Err, Option, Result, sym, refl, ap, ◌∙◌, ap₂, inl, inr, add-one}
+use Rattle.std.proofs.lemmas.List.{map-set}
 use Rattle.operations.specs.declared.operation.Operation.{Operation}
 use Rattle.operations.specs.Events.{Event, event, events, at}
 use Rattle.operations.specs.Races.{racing_partner}
 use Rattle.keepers.specs.declared.fault.KeeperFault.{KeeperFault}
 use Rattle.keepers.specs.Adding.{added, addition, answered, after_addition}
-use Rattle.keepers.specs.Meaning.{Meaning, held}
+use Rattle.keepers.specs.Meaning.{Meaning}
 use Rattle.keepers.proofs.Accepting.{Accepted, accepted}
 use Rattle.laws.specs.Tally.{Tally, noted}
 use Rattle.examination.specs.declared.open.Open.{Open}
@@ -67,7 +66,7 @@ module _ (G : Setting) (E : Exam) (e : Event) where
       go (Ok u) (Err f) is add = inr (refused_by (Keeper f) (not_added is f add))
       go (Ok u) (Ok k) is add = inl (taken is k add)
 
--- what the code's admission has at hand, and what it promises of it
+-- what the code has at hand once the keeper has added the operation
 module _ {W : Type 0} (value : W → List ℤ) (G : Setting) (xs : List (Operation W)) (m : Meaning) (o : Open) (op : Operation W) where
   abbrev E : Exam
   E = exam value xs m o
@@ -75,58 +74,26 @@ module _ {W : Type 0} (value : W → List ℤ) (G : Setting) (xs : List (Operati
   abbrev e : Event
   e = event value op
 
-  pub place_known : checks G.start E e ≡ Ok tt → o.admitted < length xs
-  place_known ok = let p = (passed G.start E e ok).place in omega (arith, length-map xs (event value))
+  module _ (ok : Ok tt ≡ checks G.start E e) (giver : Option ℕ) (gives : giver ≡ giver_of G E e) (k : ℕ) (add : Ok k ≡ addition m op.processor giver) where
+    is_taken : Taken G E e
+    is_taken = taken G E e (sym ok) k (ap (addition m op.processor) (sym gives) ∙ sym add)
 
-  pub count_known : checks G.start E e ≡ Ok tt → held m ≡ o.admitted
-  count_known ok = (passed G.start E e ok).count
+    number_is : k ≡ o.admitted
+    number_is = (accepted m op.processor giver k (sym add)).number ∙ is_taken.passes.count
 
-  module _ (ok : checks G.start E e ≡ Ok tt) (giver : Option ℕ) (gives : giver ≡ giver_of G E e) where
-    pub keeper_refuses : (f : KeeperFault) → Err f ≡ addition m op.processor giver → admission G E e ≡ Err (Keeper f)
-    keeper_refuses f add = not_added G E e ok f (ap (addition m op.processor) (sym gives) ∙ sym add)
+    pub record Done (m₂ : Meaning) (o₁ : Open) (partner : Option ℕ) : Type 0 where
+      pub answer : Ok (record { number = k; partner = partner }) ≡ admission G E e
+      pub after : exam value (set xs k op) m₂ o₁ ≡ after_admission G E e
 
-    module _ (k : ℕ) (add : Ok k ≡ addition m op.processor giver) where
-      is_taken : Taken G E e
-      is_taken = taken G E e ok k (ap (addition m op.processor) (sym gives) ∙ sym add)
-
-      adds : Accepted m op.processor giver k
-      adds = accepted m op.processor giver k (sym add)
-
-      pub number_is : k ≡ o.admitted
-      number_is = adds.number ∙ is_taken.passes.count
-
-      pub number_placed : k < length xs
-      number_placed = let p = place_known ok in omega (arith, number_is)
-
-      pub room_known : 0 < m.room
-      room_known = adds.room
-
-      pub number_held : (m₁ : Meaning) → m₁ ≡ after_addition m op.processor giver → k < held m₁
-      number_held m₁ is =
-          let now-is : m₁ ≡ added m op.processor giver = is ∙ ap (answered m op.processor giver) (sym add) in
-          subst (λ x. k < held x) (sym now-is) (omega (arith, length_push m.processors op.processor, adds.number))
-
-      pub record Done (xs₁ : List (Operation W)) (m₂ : Meaning) (o₁ : Open) (partner : Option ℕ) : Type 0 where
-        pub answer : Ok (record { number = k; partner = partner }) ≡ admission G E e
-        pub after : exam value xs₁ m₂ o₁ ≡ after_admission G E e
-        pub written : xs₁ ≡ set xs o.admitted op
-
-      pub done : (m₁ : Meaning) → m₁ ≡ after_addition m op.processor giver → (xs₁ : List (Operation W)) → xs₁ ≡ set xs k op
-          → (partner : Option ℕ) → partner ≡ racing_partner m₁.before (at (events value xs₁)) k → (m₂ : Meaning) → m₂ ≡ m₁ → (o₁ : Open) → tally o₁ ≡ noted (tally o) partner
-          → Done xs₁ m₂ o₁ partner
-      done m₁ m₁_is xs₁ xs₁-is partner partner-is m₂ m₂-is o₁ o₁-is =
-          let fuller-is : m₁ ≡ keeper_with G E e = m₁_is ∙ ap (answered m op.processor giver) (sym add) ∙ ap (added m op.processor) gives in
-          let events-is : events value xs₁ ≡ events_with E e = ap (events value) xs₁-is ∙ map-set (event value) xs k op ∙ ap (λ j. set (events value xs) j e) number_is in
-          let same : partner ≡ partner_of G E e =
-          partner-is
-          ∙ ap (λ x. racing_partner x.before (at (events value xs₁)) k) fuller-is
-          ∙ ap (λ es. racing_partner (keeper_with G E e).before (at es) k) events-is
-          ∙ ap (racing_partner (keeper_with G E e).before (at (events_with E e))) number_is in
-          let keeper-is : m₂ ≡ keeper_with G E e = m₂-is ∙ fuller-is in
-          let numbers-is : tally o₁ ≡ noted (tally o) (partner_of G E e) = o₁-is ∙ ap (noted (tally o)) same in
-          let grown-is : exam value xs₁ m₂ o₁ ≡ next_exam G E e = λ i. record { events = events-is i; keeper = keeper-is i; numbers = numbers-is i } in
-          record {
-            answer = ap₂ (λ j p. Ok (record { number = j; partner = p })) number_is same ∙ sym is_taken.answer;
-            after = grown-is ∙ sym is_taken.after;
-            written = xs₁-is ∙ ap (λ j. set xs j op) number_is;
-          }
+    pub done : (m₁ : Meaning) → m₁ ≡ after_addition m op.processor giver → (partner : Option ℕ) → partner ≡ racing_partner m₁.before (at (events value (set xs k op))) k
+        → (m₂ : Meaning) → m₂ ≡ m₁ → (o₁ : Open) → tally o₁ ≡ noted (tally o) partner → Done m₂ o₁ partner
+    done m₁ m₁_is partner partner-is m₂ m₂-is o₁ o₁-is =
+        let keeper-is : m₁ ≡ keeper_with G E e = m₁_is ∙ ap (answered m op.processor giver) (sym add) ∙ ap (added m op.processor) gives in
+        let events-is : events value (set xs k op) ≡ events_with E e = map-set (event value) xs k op ∙ ap (λ j. set (events value xs) j e) number_is in
+        let same : partner ≡ partner_of G E e = partner-is ∙ (λ i. racing_partner (keeper-is i).before (at (events-is i)) (number_is i)) in
+        record {
+          answer = (λ i. Ok (record { number = number_is i; partner = same i })) ∙ sym is_taken.answer;
+          after =
+              (λ i. record { events = events-is i; keeper = (m₂-is ∙ keeper-is) i; numbers = (o₁-is ∙ ap (noted (tally o)) same) i })
+              ∙ sym is_taken.after;
+        }

@@ -1,5 +1,4 @@
-pub mod Verdicts
-pub mod Asking
+pub mod Shown
 pub mod Checking
 pub mod Admitting
 pub mod Reaching

@@ -1,25 +1,22 @@
 -- Wherever a run leads, the keeper tells the order exactly and the numbers tell the races exactly. Assumes nothing.
-use Rattle.std.proofs.Common.{◌≡◌, ℕ, suc, ◌<◌, ◌≤◌, Bool, true, false, cond, eqb, ltb, List, [], ◌∷◌, length, is_some, Some, None, Ok, Err, Option, Result, sym, refl, ap, ◌∙◌, subst, ⊎_elim, arith}
+use Rattle.std.proofs.Common.{◌≡◌, ℕ, suc, ◌<◌, Bool, true, false, cond, eqb, List, [], ◌∷◌, length, is_some, Some, None, Decides, Option, Result, sym, refl, ap, ◌∙◌, subst, ⊎_elim, arith}
 use Rattle.std.proofs.lemmas.List.{get_or-set_same, get_or-set_other}
-use Rattle.std.proofs.lemmas.Bool.{cases_lt, cases_eq, lt-ltb, le-ltb, eq-eqb, ne_eqb, false≢true, and_right}
+use Rattle.std.proofs.lemmas.Bool.{cases_eq, lt-ltb, eq-eqb, ne_eqb, false≢true}
 use Rattle.operations.specs.Events.{Event, at, nothing}
-use Rattle.operations.specs.History.{History}
+use Rattle.operations.specs.History.{History, Before}
 use Rattle.operations.specs.Races.{racing_partner}
 use Rattle.keepers.specs.Meaning.{Meaning, held}
-use Rattle.keepers.specs.Asking.{order}
-use Rattle.keepers.specs.declared.fault.KeeperFault.TheVariants.{NotHeld}
 use Rattle.laws.specs.Exact.{Keeps, RacyAs}
 use Rattle.laws.specs.Tally.{Tally, noted, tally_of}
 use Rattle.laws.proofs.Kept.{Grows, empty_keeps, grown_keeps}
 use Rattle.laws.proofs.Kept as kept
 use Rattle.laws.proofs.Verdicts.{partner_exact, tally_grown, tally_none, tally_tied, tally_clear, tally_racy}
 use Rattle.examination.specs.declared.fault.ExamFault.{ExamFault}
-use Rattle.examination.specs.declared.fault.ExamFault.TheVariants.{CountDiffers}
 use Rattle.examination.specs.declared.admission.Admitted.{Admitted}
 use Rattle.examination.specs.Admission.{Setting, Exam, partner_of, events_with, keeper_with, admission, after_admission}
-use Rattle.examination.specs.Asking.{from_keeper, order_answer}
+use Rattle.examination.specs.Asking.{order_answer}
 use Rattle.examination.specs.Closing.{Said, race_free, racy, closing, pair_or_none}
-use Rattle.examination.specs.Runs.{Call, admit, ask, after, run, Opened, Reached, history, Ordered, OrderExact, Partnered, AdmissionExact, Holds, VerdictExact}
+use Rattle.examination.specs.Runs.{Call, admit, ask, after, run, Opened, Reached, history, OrderExact, Partnered, AdmissionExact, Holds, VerdictExact}
 use Rattle.examination.proofs.Admitting.{Taken, Refused, cases_admission, noted_admitted, next_exam}
 
 pub record Sound (G : Setting) (E : Exam) : Type 0 where
@@ -87,33 +84,14 @@ pub reached_sound : (G : Setting) (E : Exam) → Reached G E → Sound G E
 reached_sound G E r = subst (Sound G) r.leads (run_sound G r.start r.calls (opened_sound G r.start r.opened))
 
 -- order questions
-module _ (H : History) (m : Meaning) (keeps : Keeps H m) (a b : ℕ) where
-  ordered_here : Ordered H a b (order_answer m H.size a b)
-  ordered_here =
-      let count : eqb (held m) H.size ≡ true = eq-eqb _ _ keeps.count in
-      let answer : order_answer m H.size a b ≡ from_keeper (order m a b) = ap (λ t. cond t (from_keeper (order m a b)) (Err CountDiffers)) count in
-      subst (Ordered H a b) (sym answer) (⊎_elim
-      (λ (h : a < H.size). ⊎_elim
-      (λ (k : b < H.size).
-      let t : ltb a (held m) ≡ true = lt-ltb a (held m) (omega (arith, keeps.count)) in
-      let u : ltb b (held m) ≡ true = lt-ltb b (held m) (omega (arith, keeps.count)) in
-      let is : order m a b ≡ Ok (m.before a b) = simp (t, u) in
-      subst (λ r. Ordered H a b (from_keeper r)) (sym is) (h, k, keeps.order a b h k))
-      (λ (k : H.size ≤ b).
-      let u : ltb b (held m) ≡ false = le-ltb b (held m) (omega (arith, keeps.count)) in
-      let is : order m a b ≡ Err NotHeld = ap (λ t. cond t (Ok (m.before a b)) (Err NotHeld)) (and_right (ltb a (held m)) (ltb b (held m)) u) in
-      subst (λ r. Ordered H a b (from_keeper r)) (sym is) (refl, λ x y. omega arith))
-      (cases_lt b H.size))
-      (λ (h : H.size ≤ a).
-      let t : ltb a (held m) ≡ false = le-ltb a (held m) (omega (arith, keeps.count)) in
-      let is : order m a b ≡ Err NotHeld = simp t in
-      subst (λ r. Ordered H a b (from_keeper r)) (sym is) (refl, λ x y. omega arith))
-      (cases_lt a H.size))
+pub run_count : (G : Setting) (E : Exam) (cs : List Call) → Opened E → held (run G E cs).keeper ≡ (run G E cs).numbers.admitted
+run_count G E cs o = (run_sound G E cs (opened_sound G E o)).keeps.count
+
+pub order_reached : {G : Setting} {E : Exam} {a b : ℕ} → Reached G E → a < E.numbers.admitted → b < E.numbers.admitted → Decides (E.keeper.before a b) (Before (history G E) a b)
+order_reached r h k = (reached_sound _ _ r).keeps.order _ _ h k
 
 pub order_exact : (m : Meaning) (n a b : ℕ) (r : Result Bool ExamFault) → r ≡ order_answer m n a b → OrderExact m n a b r
-order_exact m n a b r is G E reached same count =
-    let keeps : Keeps (history G E) m = subst (Keeps (history G E)) same (reached_sound G E reached).keeps in
-    subst (Ordered (history G E) a b) (ap (λ k. order_answer m k a b) count ∙ sym is) (ordered_here (history G E) m keeps a b)
+order_exact m n a b r is = grind (arith, run_count, order_reached)
 
 -- admissions
 pub admission_exact : (G : Setting) (E : Exam) (e : Event) (r : Result Admitted ExamFault) → r ≡ admission G E e → AdmissionExact G E e r

@@ -14,7 +14,8 @@ use Rattle.examination.specs.declared.admission.Admitted.{Admitted}
 use Rattle.examination.specs.declared.fault.ExamFault.{ExamFault}
 use Rattle.examination.specs.declared.fault.ExamFault.TheVariants.{Keeper, CountDiffers, RecordShort, ClassTooHigh, WordDiffers}
 use Rattle.examination.specs.declared.open.Open.{Open}
-use Rattle.examination.specs.declared.racy.RacingPair.{RacingPair}
+use Rattle.examination.specs.declared.races.RacingPair.{RacingPair}
+use Rattle.examination.specs.Races.{racing, first_race}
 
 -- the pairing rule and the initial word, by meaning
 pub record Setting : Type 0 where
@@ -36,7 +37,7 @@ pair None = None
 pair (Some p) = Some (p.partner, p.operation)
 
 abbrev pub tally : Open → Tally
-tally o = record { admitted = o.admitted; racing = o.racing; first = pair o.first }
+tally o = record { admitted = o.admitted; racing = racing o.races; first = pair (first_race o.races) }
 
 abbrev pub exam : {W : Type 0} → (W → List ℤ) → List (Operation W) → Meaning → Open → Exam
 exam value log m o = record { events = events value log; keeper = m; numbers = tally o }

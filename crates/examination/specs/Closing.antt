@@ -19,4 +19,4 @@ closing t = cond (t.racing == 0) (race_free t.admitted) (racy t.admitted t.racin
 
 abbrev pub said : Verdict → Said
 said (RaceFree s) = race_free s.admitted
-said (Racy s) = racy s.admitted s.racing (s.first.partner, s.first.operation)
+said (Racy s) = racy s.admitted s.races.count (s.races.first.partner, s.races.first.operation)

@@ -1,4 +1,5 @@
 pub mod Refusals
+pub mod Races
 pub mod Admission
 pub mod Asking
 pub mod Closing

@@ -8,7 +8,7 @@ ghost use Rattle.examination.specs.Runs.{AdmissionExact};
 
 use crate::fault::ExamFault;
 use crate::open::Open;
-use crate::racy::RacingPair;
+use crate::races::{Races, RacingPair};
 use crate::search::{giver, partner_of};
 use keepers::Keeper;
 use operations::{Operation, PairingRule, word_fits};
@@ -18,18 +18,10 @@ use words::Word;
 const HIGHEST_CLASS: u8 = 15;
 
 // The answer to an admission: the operation's number, and its racing partner if it has one.
-#[derive(Clone, Copy)]
+#[derive(Clone, Copy, PartialEq, Eq, Debug)]
 pub struct Admitted {
     pub number: u16,
     pub partner: Option<u16>,
-}
-
-// Writes an operation at a place of the record.
-fn put<W: Word>(log: &mut [Operation<W>], place: usize, operation: Operation<W>)
-    requires { place < length log.old }
-    ensures { log.new ≡ slice_set log.old place operation }
-{
-    log[place] = operation;
 }
 
 impl Open {
@@ -42,8 +34,7 @@ impl Open {
         }
         Ok(Open {
             admitted: 0,
-            racing: 0,
-            first: None,
+            races: None,
         })
     }
 
@@ -54,7 +45,8 @@ impl Open {
         keeper: &K,
         next: &Operation<W>,
     ) -> Result<(), ExamFault>
-        ensures { result ≡ checks W.Word.start (exam W.Word.value log.now (K.Keeper.meaning keeper.now) self.now) (event W.Word.value next.now) }
+        ensures { let E = exam W.Word.value log.now (K.Keeper.meaning keeper.now) self.now in
+            result ≡ checks W.Word.start E (event W.Word.value next.now) }
     {
         let n = self.admitted as usize;
         if n >= log.len() {
@@ -66,7 +58,7 @@ impl Open {
         if next.class > HIGHEST_CLASS {
             return Err(ExamFault::ClassTooHigh);
         }
-        if !word_fits(&log[0..n], next) {
+        if !word_fits(&log[..n], next) {
             return Err(ExamFault::WordDiffers);
         }
         Ok(())
@@ -78,19 +70,20 @@ impl Open {
         ensures { tally self.new ≡ noted (tally self.old) partner }
     {
         let operation = self.admitted;
-        let first = match partner {
-            Some(partner) if self.racing == 0 => Some(RacingPair { partner, operation }),
-            _ => self.first,
-        };
-        let racing = if partner.is_some() {
-            self.racing + 1
-        } else {
-            self.racing
+        let races = match (partner, self.races) {
+            (None, races) => races,
+            (Some(partner), None) => Some(Races {
+                count: 1,
+                first: RacingPair { partner, operation },
+            }),
+            (Some(_), Some(races)) => Some(Races {
+                count: races.count + 1,
+                first: races.first,
+            }),
         };
         *self = Open {
             admitted: operation + 1,
-            racing,
-            first,
+            races,
         };
     }
 
@@ -103,15 +96,21 @@ impl Open {
         rule: &R,
         operation: Operation<W>,
     ) -> Result<Admitted, ExamFault>
-        ensures answer { result ≡ admission (setting (R.PairingRule.pairs rule.now) W.Word.start) (exam W.Word.value log.old (K.Keeper.meaning keeper.old) self.old) (event W.Word.value operation) }
-        ensures after { exam W.Word.value log.new (K.Keeper.meaning keeper.new) self.new ≡ after_admission (setting (R.PairingRule.pairs rule.now) W.Word.start) (exam W.Word.value log.old (K.Keeper.meaning keeper.old) self.old) (event W.Word.value operation) }
+        ensures answer { let G = setting (R.PairingRule.pairs rule.now) W.Word.start in
+            let E = exam W.Word.value log.old (K.Keeper.meaning keeper.old) self.old in
+            result ≡ admission G E (event W.Word.value operation) }
+        ensures after { let G = setting (R.PairingRule.pairs rule.now) W.Word.start in
+            let E = exam W.Word.value log.old (K.Keeper.meaning keeper.old) self.old in
+            exam W.Word.value log.new (K.Keeper.meaning keeper.new) self.new ≡ after_admission G E (event W.Word.value operation) }
         ensures written { log.new ≡ recorded log.old self.old.admitted operation result }
-        ensures exact { AdmissionExact (setting (R.PairingRule.pairs rule.now) W.Word.start) (exam W.Word.value log.old (K.Keeper.meaning keeper.old) self.old) (event W.Word.value operation) result }
+        ensures exact { let G = setting (R.PairingRule.pairs rule.now) W.Word.start in
+            let E = exam W.Word.value log.old (K.Keeper.meaning keeper.old) self.old in
+            AdmissionExact G E (event W.Word.value operation) result }
     {
         self.check(log, keeper, &operation)?;
         let giver = giver(log, self.admitted, rule, &operation);
         let number = keeper.add(operation.processor, giver)?;
-        put(log, number as usize, operation);
+        log[number as usize] = operation;
         let partner = partner_of(log, keeper, number);
         self.note(partner);
         Ok(Admitted { number, partner })

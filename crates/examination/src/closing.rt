@@ -20,18 +20,10 @@ impl Open {
         ensures verdict { said result ≡ closing (tally self) }
         ensures exact { VerdictExact (tally self) (said result) }
     {
-        let Open {
-            admitted,
-            racing,
-            first,
-        } = self;
-        match first {
+        let Open { admitted, races } = self;
+        match races {
             None => Verdict::RaceFree(RaceFree { admitted }),
-            Some(first) => Verdict::Racy(Racy {
-                admitted,
-                racing,
-                first,
-            }),
+            Some(races) => Verdict::Racy(Racy { admitted, races }),
         }
     }
 }

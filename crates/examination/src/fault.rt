@@ -5,7 +5,7 @@ ghost use Rattle.examination.specs.declared.fault.ExamFault.TheVariants.{Keeper 
 use keepers::{Adds, KeeperFault, Refusal};
 
 // Why an examination refuses; a keeper's fault travels inside.
-#[derive(Clone, Copy, PartialEq, Debug)]
+#[derive(Clone, Copy, PartialEq, Eq, Debug)]
 pub enum ExamFault {
     Keeper(KeeperFault),
     CountDiffers,
@@ -22,12 +22,12 @@ impl From<KeeperFault> for ExamFault {
     }
 }
 
-impl ExamFault {
-    pub fn refusal(self) -> Refusal
-        ensures { result ≡ exam_refusal self }
-    {
-        let number = match self {
-            ExamFault::Keeper(fault) => return fault.refusal(),
+impl From<ExamFault> for Refusal {
+    ghost from_gives = { λ f r. r ≡ exam_refusal f };
+
+    fn from(fault: ExamFault) -> Refusal {
+        let number = match fault {
+            ExamFault::Keeper(fault) => return Refusal::from(fault),
             ExamFault::CountDiffers => 6,
             ExamFault::RecordShort => 7,
             ExamFault::ClassTooHigh => 8,

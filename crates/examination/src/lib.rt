@@ -8,6 +8,7 @@ mod fault;
 mod open;
 mod order;
 mod race_free;
+mod races;
 mod racy;
 mod search;
 
@@ -15,5 +16,7 @@ pub use admission::Admitted;
 pub use closing::Verdict;
 pub use fault::ExamFault;
 pub use open::Open;
+pub use order::Examination;
 pub use race_free::RaceFree;
-pub use racy::{RacingPair, Racy};
+pub use races::{Races, RacingPair};
+pub use racy::Racy;

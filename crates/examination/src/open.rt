@@ -1,24 +1,23 @@
-ghost use Rattle.std.specs.Prelude.{◌≡◌, ◌≤◌, is_some, nat_lt};
+ghost use Rattle.std.specs.Prelude.{◌≡◌, ◌≤◌};
 ghost use Rattle.keepers.specs.Meaning.{most_held};
+ghost use Rattle.examination.specs.Races.{racing};
 
-use crate::racy::RacingPair;
+use crate::order::Examination;
+use crate::races::Races;
 
 // An examination that is open: plain numbers, which only opening makes and only admission changes.
 #[derive(Drop)]
 pub struct Open {
     pub(crate) admitted: u16,
-    pub(crate) racing: u16,
-    pub(crate) first: Option<RacingPair>,
+    pub(crate) races: Option<Races>,
     ghost few: { admitted ≤ most_held },
-    ghost fewer: { racing ≤ admitted },
-    ghost shown: { is_some first ≡ nat_lt 0 racing },
+    ghost fewer: { racing races ≤ admitted },
 }
 
-impl Open {
-    // How many operations were admitted.
-    pub fn admitted(&self) -> u16
-        ensures { result ≡ self.now.admitted }
-    {
+impl Examination for Open {
+    ghost size = { λ e. e.admitted };
+
+    fn admitted(&self) -> u16 {
         self.admitted
     }
 }

@@ -1,7 +1,7 @@
 ghost use Rattle.std.specs.Prelude.{◌≡◌, ◌<◌, ◌≤◌, length};
 ghost use Rattle.keepers.specs.Meaning.{held};
 ghost use Rattle.operations.specs.Events.{event, events, at};
-ghost use Rattle.operations.specs.Races.{unordered as unordered_by, racing_partner};
+ghost use Rattle.operations.specs.Races.{races as races_by, unordered as unordered_by, racing_partner};
 ghost use Rattle.operations.specs.Rules.{pairing};
 ghost use Rattle.operations.specs.Sources.{release_for};
 
@@ -17,10 +17,10 @@ pub(crate) fn giver<W: Word, R: PairingRule>(
     next: &Operation<W>,
 ) -> Option<u16>
     requires { n ≤ length log.now }
-    ensures { result ≡ release_for (pairing (R.PairingRule.pairs rule.now)) (at (events W.Word.value log.now)) n (event W.Word.value next.now) }
+    ensures { let op = at (events W.Word.value log.now) in
+        result ≡ release_for (pairing (R.PairingRule.pairs rule.now)) op n (event W.Word.value next.now) }
 {
-    let release = paired_release(&log[0..n as usize], rule, next)?;
-    Some(release as u16)
+    paired_release(&log[..n as usize], rule, next).map(|release| release as u16)
 }
 
 // Is neither of two held operations before the other?
@@ -30,16 +30,23 @@ fn unordered<K: Keeper>(keeper: &mut K, a: u16, b: u16) -> bool
     ensures value { result ≡ unordered_by (K.Keeper.meaning keeper.old).before a b }
     ensures same { K.Keeper.meaning keeper.new ≡ K.Keeper.meaning keeper.old }
 {
-    let Ok(forth) = keeper.before(a, b) else {
-        return unreachable();
-    };
-    let Ok(back) = keeper.before(b, a) else {
-        return unreachable();
-    };
-    !forth & !back
+    keeper.before(a, b) == Ok(false) && keeper.before(b, a) == Ok(false)
+}
+
+// Are two recorded operations in a data race, by the keeper's order?
+#[tactic(auto, using(operations::proofs::Searching::at_events))]
+fn races<W: Word, K: Keeper>(log: &[Operation<W>], keeper: &mut K, a: u16, b: u16) -> bool
+    requires recorded { (a < length log.now) × (b < length log.now) }
+    requires kept { (a < held (K.Keeper.meaning keeper.old)) × (b < held (K.Keeper.meaning keeper.old)) }
+    ensures value { let op = at (events W.Word.value log.now) in
+        result ≡ races_by (K.Keeper.meaning keeper.old).before op a b }
+    ensures same { K.Keeper.meaning keeper.new ≡ K.Keeper.meaning keeper.old }
+{
+    may_race(&log[a as usize], &log[b as usize]) && unordered(keeper, a, b)
 }
 
 // The latest operation earlier than number `n` in a data race with it, by the keeper's order.
+#[tactic(auto, using(operations::proofs::Searching::such_hit, operations::proofs::Searching::such_miss))]
 pub(crate) fn partner_of<W: Word, K: Keeper>(
     log: &[Operation<W>],
     keeper: &mut K,
@@ -47,12 +54,13 @@ pub(crate) fn partner_of<W: Word, K: Keeper>(
 ) -> Option<u16>
     requires recorded { n < length log.now }
     requires kept { n < held (K.Keeper.meaning keeper.old) }
-    ensures value { result ≡ racing_partner (K.Keeper.meaning keeper.old).before (at (events W.Word.value log.now)) n }
+    ensures value { let op = at (events W.Word.value log.now) in
+        result ≡ racing_partner (K.Keeper.meaning keeper.old).before op n }
     ensures same { K.Keeper.meaning keeper.new ≡ K.Keeper.meaning keeper.old }
 {
-    let newest = log[n as usize];
+    // a `for`: what a closure does to the keeper is not known once `find` has taken it
     for k in (0..n).rev() {
-        if may_race(&log[k as usize], &newest) && unordered(keeper, k, n) {
+        if races(log, keeper, k, n) {
             return Some(k);
         }
     }
