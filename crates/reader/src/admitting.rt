@@ -109,23 +109,6 @@ impl<'a, W: Word, K: Keeper, R: PairingRule> Admitting<'a, W, K, R> {
     {
         self.admit_records(section.records::<W>()?)
     }
-
-    // Admits the operations of a directory's sections in turn.
-    fn admit_sections(&mut self, directory: Directory<'_>) -> Result<(), FileFault>
-        requires { let d = directory in
-            (i : ℕ) → i < d.header.sections → IsPlaced d.file.now d.header.sections i }
-        ensures read { let G = setting (R.PairingRule.pairs self.old.rule.now) W.Word.start in
-            let d = directory.entry in
-            ended result (worked_on K.Keeper.meaning self.new)
-            ≡ read W.Word.value G (worked_on K.Keeper.meaning self.old)
-            (sections_items W.Word.decoded W.Word.size d.file.now 0 d.header.sections) }
-        ensures loans { KeepsLoans self.old self.new }
-    {
-        for section in directory.iter() {
-            self.admit_section(section)?;
-        }
-        Ok(())
-    }
 }
 
 // Admits the operations of a record file in turn, once its whole directory is checked. What was admitted before
@@ -144,5 +127,9 @@ pub fn admit_file<W: Word, K: Keeper, R: PairingRule>(
         ended result after ≡ read W.Word.value G before (file_items W.Word.decoded W.Word.size file.now) }
 {
     let directory = Directory::new(file)?;
-    Admitting::new(exam, log, keeper, rule, partners).admit_sections(directory)
+    let mut admitting = Admitting::new(exam, log, keeper, rule, partners);
+    for section in directory.iter() {
+        admitting.admit_section(section)?;
+    }
+    Ok(())
 }
