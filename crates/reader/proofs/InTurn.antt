@@ -16,32 +16,20 @@ use Rattle.record_file.specs.declared.fault.FileFault.TheVariants.{Record, Secti
 use Rattle.record_file.specs.Directory.{section_start, section_bytes}
 use Rattle.record_file.specs.Records.{Item, operation, stop, record_size, operation_of, record_of, and_then, rest_items, section_items, sections_items}
 use Rattle.record_file.proofs.Items.{records_more, sections_more}
-use Rattle.reader.specs.Reading.{Reading, exam_of, with_operation, ended, if_admitted, read}
+use Rattle.reader.specs.Reading.{Reading, with_operation, ended, if_admitted, read}
 use Rattle.reader.specs.Examining.{reading}
 
 module _ {W : Type 0} (value : W → List ℤ) (G : Setting) where
   -- two parts, one after the other
   pub read_through : (s s' : Reading W) (xs ys : List (Item W)) → ended (Ok tt) s' ≡ read value G s xs → read value G s (xs ++ ys) ≡ read value G s' ys
-  read_through s s' [] ys e = let same : s ≡ s' = ap (λ x. x.left) (sym e) in ap (λ x. read value G x ys) same
-  read_through s s' (stop f ∷ xs) ys e = absurd (let q : ◌≡◌ {A = Result (Unit {0}) FileFault} (Ok tt) (Err f) = ap (λ x. x.result) e in let z : ◌≡◌ {A = ℕ} 0 1 = cc in omega arith)
-  read_through s s' (operation at o ∷ xs) ys e = go (admission G (exam_of value s) (event value o)) e (λ d. read_through (with_operation value G s o) s' xs ys d)
-    where
-      go : (r : Result Admitted ExamFault) → ended (Ok tt) s' ≡ if_admitted r at s (read value G (with_operation value G s o) xs)
-          → (ended (Ok tt) s' ≡ read value G (with_operation value G s o) xs → read value G (with_operation value G s o) (xs ++ ys) ≡ read value G s' ys)
-          → if_admitted r at s (read value G (with_operation value G s o) (xs ++ ys)) ≡ read value G s' ys
-      go (Ok a) d rest = rest d
-      go (Err f) d rest = absurd (let q : ◌≡◌ {A = Result (Unit {0}) FileFault} (Ok tt) (Err (Record (record { offset = at; fault = f }))) = ap (λ x. x.result) d in let z : ◌≡◌ {A = ℕ} 0 1 = cc in omega arith)
+  read_through s s' [] ys e = grind arith
+  read_through s s' (stop f ∷ xs) ys e = grind arith
+  read_through s s' (operation at o ∷ xs) ys e = let rest = read_through (with_operation value G s o) s' xs ys in grind arith
 
   pub read_stopped : (s s' : Reading W) (f : FileFault) (xs ys : List (Item W)) → ended (Err f) s' ≡ read value G s xs → ended (Err f) s' ≡ read value G s (xs ++ ys)
-  read_stopped s s' f [] ys e = absurd (let q : ◌≡◌ {A = Result (Unit {0}) FileFault} (Err f) (Ok tt) = ap (λ x. x.result) e in let z : ◌≡◌ {A = ℕ} 0 1 = cc in omega arith)
+  read_stopped s s' f [] ys e = grind arith
   read_stopped s s' f (stop g ∷ xs) ys e = e
-  read_stopped s s' f (operation at o ∷ xs) ys e = go (admission G (exam_of value s) (event value o)) e (λ d. read_stopped (with_operation value G s o) s' f xs ys d)
-    where
-      go : (r : Result Admitted ExamFault) → ended (Err f) s' ≡ if_admitted r at s (read value G (with_operation value G s o) xs)
-          → (ended (Err f) s' ≡ read value G (with_operation value G s o) xs → ended (Err f) s' ≡ read value G (with_operation value G s o) (xs ++ ys))
-          → ended (Err f) s' ≡ if_admitted r at s (read value G (with_operation value G s o) (xs ++ ys))
-      go (Ok a) d rest = rest d
-      go (Err g) d rest = d
+  read_stopped s s' f (operation at o ∷ xs) ys e = let rest = read_stopped (with_operation value G s o) s' f xs ys in grind arith
 
   -- one operation, as the code admits it
   module _ (log : List (Operation W)) (m : Meaning) (o : Open) (partners : List (Option ℕ)) (op : Operation W) (at : ℕ) where

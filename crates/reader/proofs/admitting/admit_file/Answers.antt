@@ -1,8 +1,6 @@
-use Rattle.std.proofs.Common.{◌<◌, Err, ap, ◌∙◌, subst, rules}
-use Rattle.std.proofs.lemmas.Result.{err_from_is_err_and}
+use Rattle.std.proofs.Common.{◌<◌, ap, ◌∙◌, subst, rules}
 use Rattle.examination.specs.Admission.{setting}
 use Rattle.record_file.specs.Directory.{section_start, section_bytes}
-use Rattle.reader.specs.Reading.{ended}
 use Rattle.reader.specs.Admitting.{worked_on}
 use Rattle.reader.proofs.InTurn.{section_passes, section_stops}
 use Rattle.reader.proofs.admitting.admit_file.Goals as goal
