@@ -1,20 +1,19 @@
 -- A reading is a run of the examination, so that its verdict is exact. Assumes nothing.
-use Rattle.std.proofs.Common.{◌≡◌, ℕ, ◌<◌, Bool, true, false, cond, eqb, List, [], ◌∷◌, ◌++◌, length, take, set, ℤ, Ok, Err, Option, Result, sym, refl, ap, ◌∙◌, subst, ⊎_elim, append_assoc, arith, take-suc-set}
+use Rattle.std.proofs.Common.{◌≡◌, ℕ, ◌<◌, List, [], ◌∷◌, ◌++◌, length, take, set, ℤ, Ok, Err, Option, Result, sym, refl, ap, ◌∙◌, subst, append_assoc, arith, take-suc-set}
 use lib.ListN.{length-map}
 use Rattle.std.proofs.lemmas.List.{map-set, append-nil}
-use Rattle.std.proofs.lemmas.Bool.{eqb-true}
 use Rattle.operations.specs.declared.operation.Operation.{Operation}
 use Rattle.operations.specs.Events.{event, events, at}
 use Rattle.keepers.specs.Meaning.{Meaning, held}
-use Rattle.laws.specs.Tally.{Tally, no_operation, noted}
+use Rattle.laws.specs.Tally.{noted}
 use Rattle.examination.specs.declared.admission.Admitted.{Admitted}
 use Rattle.examination.specs.declared.fault.ExamFault.{ExamFault}
-use Rattle.examination.specs.declared.fault.ExamFault.TheVariants.{CountDiffers}
 use Rattle.examination.specs.declared.open.Open.{Open}
 use Rattle.examination.specs.Admission.{Setting, Exam, tally, opening, admission, after_admission, keeper_with, partner_of}
 use Rattle.examination.specs.Closing.{Said}
 use Rattle.examination.specs.Runs.{Call, admit, after, run, Reached, Holds, VerdictExact}
-use Rattle.examination.proofs.Admitting.{Taken, Refused, cases_admission, noted_admitted}
+use Rattle.examination.proofs.Admitting.{noted_admitted}
+use Rattle.reader.proofs.InTurn.{taken_of}
 use Rattle.examination.proofs.Reaching.{reached_sound}
 use Rattle.record_file.specs.declared.fault.FileFault.{FileFault}
 use Rattle.record_file.specs.Records.{Item, operation, stop}
@@ -35,13 +34,11 @@ reached_more G E c r = record {
 
 module _ {W : Type 0} (value : W → List ℤ) (G : Setting) where
   with_reached : (s : Reading W) (o : Operation W) (a : Admitted) → admission G (exam_of value s) (event value o) ≡ Ok a → Reached G (exam_of value s) → Reached G (exam_of value (with_operation value G s o))
-  with_reached s o a is r = ⊎_elim
-      (λ (t : Taken G (exam_of value s) (event value o)).
+  with_reached s o a is r =
+      let t = taken_of G (exam_of value s) (event value o) a is in
       let step : after_admission G (exam_of value s) (event value o) ≡ exam_of value (with_operation value G s o) =
       t.after ∙ ap (λ es. record { events = es; keeper = keeper_with G (exam_of value s) (event value o); numbers = noted s.numbers (partner_of G (exam_of value s) (event value o)) }) (sym (map-set (event value) s.log s.numbers.admitted o)) in
-      subst (Reached G) step (reached_more G (exam_of value s) (admit (event value o)) r))
-      (λ (t : Refused G (exam_of value s) (event value o)). absurd (let q = sym is ∙ t.answer in let z : ◌≡◌ {A = ℕ} 0 1 = cc in omega arith))
-      (cases_admission G (exam_of value s) (event value o))
+      subst (Reached G) step (reached_more G (exam_of value s) (admit (event value o)) r)
 
   read_reached : (s : Reading W) (items : List (Item W)) → Reached G (exam_of value s) → Reached G (exam_of value (read value G s items).left)
   read_reached s [] r = r
@@ -62,16 +59,12 @@ module _ {W : Type 0} (value : W → List ℤ) (G : Setting) where
 
   -- opening was not refused
   newly_opened : (log : List (Operation W)) (m : Meaning) (o : Open) (partners : List (Option ℕ)) → Ok (tally o) ≡ opening m → Reached G (exam_of value (reading log m o partners))
-  newly_opened log m o partners opens = go (eqb (held m) 0) refl opens
-    where
-      go : (b : Bool) → eqb (held m) 0 ≡ b → ◌≡◌ {A = Result Tally ExamFault} (Ok (tally o)) (cond b (Ok no_operation) (Err CountDiffers)) → Reached G (exam_of value (reading log m o partners))
-      go true is e = record {
-        start = exam_of value (reading log m o partners);
-        calls = [];
-        opened = record { empty = eqb-true (held m) 0 is; numbers = (cc) };
-        leads = refl;
-      }
-      go false is e = absurd (let z : ◌≡◌ {A = ℕ} 0 1 = cc in omega arith)
+  newly_opened log m o partners opens = record {
+    start = exam_of value (reading log m o partners);
+    calls = [];
+    opened = record { empty = grind arith; numbers = grind arith };
+    leads = refl;
+  }
 
   -- the record's beginning is the file's beginning
   pub record Kept (s : Reading W) (items : List (Item W)) (e : Ended W) : Type 0 where
@@ -90,18 +83,15 @@ module _ {W : Type 0} (value : W → List ℤ) (G : Setting) where
       go : (x : Result Admitted ExamFault) → admission G (exam_of value s) (event value o) ≡ x
           → Kept (with_operation value G s o) items (read value G (with_operation value G s o) items)
           → Kept s (operation at o ∷ items) (if_admitted x at s (read value G (with_operation value G s o) items))
-      go (Err f) is k = record { rest = o ∷ operations_in items; same = refl; all = λ e. absurd (let z : ◌≡◌ {A = ℕ} 0 1 = cc in omega arith) }
-      go (Ok a) is k = record {
-        rest = k.rest;
-        same = sym (append_assoc (take s.numbers.admitted s.log) (o ∷ []) (operations_in items)) ∙ ap (λ l. l ++ operations_in items) (sym (next_place s o (placed a is))) ∙ k.same;
-        all = k.all;
-      }
-        where
-          placed : (a : Admitted) → admission G (exam_of value s) (event value o) ≡ Ok a → s.numbers.admitted < length s.log
-          placed a is = ⊎_elim
-              (λ (t : Taken G (exam_of value s) (event value o)). let p = t.passes.place in let l = length-map s.log (event value) in omega arith)
-              (λ (t : Refused G (exam_of value s) (event value o)). absurd (let q = sym is ∙ t.answer in let z : ◌≡◌ {A = ℕ} 0 1 = cc in omega arith))
-              (cases_admission G (exam_of value s) (event value o))
+      go (Err f) is k = record { rest = o ∷ operations_in items; same = refl; all = λ e. grind arith }
+      go (Ok a) is k =
+          let t = taken_of G (exam_of value s) (event value o) a is in
+          let place : s.numbers.admitted < length s.log = omega (arith, t.passes.place, length-map s.log (event value)) in
+          record {
+            rest = k.rest;
+            same = sym (append_assoc (take s.numbers.admitted s.log) (o ∷ []) (operations_in items)) ∙ ap (λ l. l ++ operations_in items) (sym (next_place s o place)) ∙ k.same;
+            all = k.all;
+          }
 
   opened_none : (m : Meaning) (o : Open) → Ok (tally o) ≡ opening m → o.admitted ≡ 0
   opened_none m o opens = grind arith

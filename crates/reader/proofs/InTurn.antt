@@ -7,17 +7,23 @@ use Rattle.operations.specs.declared.operation.Operation.{Operation}
 use Rattle.operations.specs.Events.{Event, event}
 use Rattle.keepers.specs.Meaning.{Meaning}
 use Rattle.examination.specs.declared.admission.Admitted.{Admitted}
-use Rattle.examination.specs.declared.fault.ExamFault.{ExamFault}
 use Rattle.examination.specs.declared.open.Open.{Open}
-use Rattle.examination.specs.Admission.{Setting, Exam, exam, admission, after_admission, grown, partner_of, recorded}
+use Rattle.examination.specs.Admission.{Setting, Exam, exam, admission, after_admission, partner_of, recorded}
 use Rattle.examination.proofs.Admitting.{Taken, Refused, cases_admission, next_exam}
 use Rattle.record_file.specs.declared.fault.FileFault.{FileFault}
-use Rattle.record_file.specs.declared.fault.FileFault.TheVariants.{Record, Section as UnfitSection}
+use Rattle.record_file.specs.declared.fault.FileFault.TheVariants.{Section as UnfitSection}
 use Rattle.record_file.specs.Directory.{section_start, section_bytes}
 use Rattle.record_file.specs.Records.{Item, operation, stop, record_size, operation_of, record_of, and_then, rest_items, section_items, sections_items}
 use Rattle.record_file.proofs.Items.{records_more, sections_more}
 use Rattle.reader.specs.Reading.{Reading, with_operation, ended, if_admitted, read}
 use Rattle.reader.specs.Examining.{reading}
+
+-- an operation that was admitted was taken
+pub taken_of : (G : Setting) (E : Exam) (e : Event) (a : Admitted) → admission G E e ≡ Ok a → Taken G E e
+taken_of G E e a is = ⊎_elim
+    (λ (t : Taken G E e). t)
+    (λ (t : Refused G E e). absurd (let q = sym is ∙ t.answer in let z : ◌≡◌ {A = ℕ} 0 1 = cc in omega arith))
+    (cases_admission G E e)
 
 module _ {W : Type 0} (value : W → List ℤ) (G : Setting) where
   -- two parts, one after the other
@@ -36,29 +42,18 @@ module _ {W : Type 0} (value : W → List ℤ) (G : Setting) where
     abbrev s : Reading W
     s = reading log m o partners
 
-    pub one_refused : (f : ExamFault) → Err f ≡ admission G (exam value log m o) (event value op) → (log' : List (Operation W)) (m' : Meaning) (o' : Open)
-        → exam value log' m' o' ≡ after_admission G (exam value log m o) (event value op) → log' ≡ recorded log o.admitted op (Err f)
-        → ended (Err (Record (record { offset = at; fault = f }))) (reading log' m' o' partners) ≡ read value G s (operation at op ∷ [])
-    one_refused f is log' m' o' after written =
-        let same : exam value log' m' o' ≡ exam value log m o = after ∙ ap (grown G (exam value log m o) (event value op)) (sym is) in
-        let left : reading log' m' o' partners ≡ s = λ i. record { log = written i; keeper = (same i).keeper; numbers = (same i).numbers; partners = partners } in
-        ap (ended (Err (Record (record { offset = at; fault = f })))) left
-        ∙ ap (λ r. if_admitted r at s (read value G (with_operation value G s op) [])) is
-
     pub one_admitted : (a : Admitted) → Ok a ≡ admission G (exam value log m o) (event value op) → (log' : List (Operation W)) (m' : Meaning) (o' : Open)
         → exam value log' m' o' ≡ after_admission G (exam value log m o) (event value op) → log' ≡ recorded log o.admitted op (Ok a)
         → (partners' : List (Option ℕ)) → partners' ≡ set partners a.number a.partner
         → ended (Ok tt) (reading log' m' o' partners') ≡ read value G s (operation at op ∷ [])
-    one_admitted a is log' m' o' after written partners' noted-is = ⊎_elim
-        (λ (t : Taken G E e).
+    one_admitted a is log' m' o' after written partners' noted-is =
+        let t = taken_of G E e a (sym is) in
         let same : a ≡ record { number = o.admitted; partner = partner_of G E e } = let q = is ∙ t.answer in cc in
         let next : exam value log' m' o' ≡ next_exam G E e = after ∙ t.after in
         let list : partners' ≡ set partners o.admitted (partner_of G E e) = noted-is ∙ ap (λ x. set partners x.number x.partner) same in
         let left : reading log' m' o' partners' ≡ with_operation value G s op = λ i. record { log = written i; keeper = (next i).keeper; numbers = (next i).numbers; partners = list i } in
         ap (ended (Ok tt)) left
-        ∙ ap (λ r. if_admitted r at s (read value G (with_operation value G s op) [])) is)
-        (λ (t : Refused G E e). absurd (let q = is ∙ t.answer in let z : ◌≡◌ {A = ℕ} 0 1 = cc in omega arith))
-        (cases_admission G E e)
+        ∙ ap (λ r. if_admitted r at s (read value G (with_operation value G s op) [])) is
       where
         E : Exam
         E = exam value log m o
