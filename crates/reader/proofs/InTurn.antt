@@ -109,29 +109,29 @@ module _ {W : Type 0} (value : W → List ℤ) (G H : Setting) (same : H ≡ G) 
     pub record_stops : (f : FileFault) → ended (Err f) s' ≡ read value H s (one ys (start + i * k)) → ended (Err f) s' ≡ read value G s (rest_items decoded size p bs at)
     record_stops f e = read_stopped value G s s' f (one ys at) (rest_items decoded size p zs (at + k)) (read_here (Err f) e) ∙ sym split
 
-  -- one turn of the loop over sections: section i of n has these bytes, which begin at `start`
-  module _ (file bytes : List ℕ) (n i start : ℕ) (less : i < n) (bytes-are : bytes ≡ section_bytes file i) (start-is : start ≡ section_start file i) where
-    abbrev here : List (Item W)
-    here = section_items decoded size (section_bytes file i) (section_start file i)
+-- one turn of the loop over sections: section i of n has these bytes, which begin at `start`
+module _ {W : Type 0} (value : W → List ℤ) (G H : Setting) (same : H ≡ G) (decoded : List ℕ → W) (size : ℕ) (s s' : Reading W) (file bytes : List ℕ) (n i start : ℕ) (less : i < n) (bytes-are : bytes ≡ section_bytes file i) (start-is : start ≡ section_start file i) where
+  abbrev here : List (Item W)
+  here = section_items decoded size (section_bytes file i) (section_start file i)
 
-    abbrev left : List (Item W)
-    left = sections_items decoded size file (i + 1) (n - (i + 1))
+  abbrev left : List (Item W)
+  left = sections_items decoded size file (i + 1) (n - (i + 1))
 
-    section_here : (r : Result (Unit {0}) FileFault) → ended r s' ≡ read value H s (section_items decoded size bytes start) → ended r s' ≡ read value G s here
-    section_here r e =
-        e
-        ∙ ap (λ J. read value J s (section_items decoded size bytes start)) same
-        ∙ ap (λ bs. read value G s (section_items decoded size bs start)) bytes-are
-        ∙ ap (λ j. read value G s (section_items decoded size (section_bytes file i) j)) start-is
+  section_here : (r : Result (Unit {0}) FileFault) → ended r s' ≡ read value H s (section_items decoded size bytes start) → ended r s' ≡ read value G s here
+  section_here r e =
+      e
+      ∙ ap (λ J. read value J s (section_items decoded size bytes start)) same
+      ∙ ap (λ bs. read value G s (section_items decoded size bs start)) bytes-are
+      ∙ ap (λ j. read value G s (section_items decoded size (section_bytes file i) j)) start-is
 
-    sections_split : read value G s (sections_items decoded size file i (n - i)) ≡ read value G s (here ++ left)
-    sections_split = ap (read value G s) (sections_more decoded size file n i less)
+  sections_split : read value G s (sections_items decoded size file i (n - i)) ≡ read value G s (here ++ left)
+  sections_split = ap (read value G s) (sections_more decoded size file n i less)
 
-    pub section_passes : (i' : ℕ) → i' ≡ i + 1 → ended (Ok tt) s' ≡ read value H s (section_items decoded size bytes start) → read value G s' (sections_items decoded size file i' (n - i')) ≡ read value G s (sections_items decoded size file i (n - i))
-    section_passes i' i'-is e =
-        ap (λ j. read value G s' (sections_items decoded size file j (n - j))) i'-is
-        ∙ sym (read_through value G s s' here left (section_here (Ok tt) e))
-        ∙ sym sections_split
+  pub section_passes : (i' : ℕ) → i' ≡ i + 1 → ended (Ok tt) s' ≡ read value H s (section_items decoded size bytes start) → read value G s' (sections_items decoded size file i' (n - i')) ≡ read value G s (sections_items decoded size file i (n - i))
+  section_passes i' i'-is e =
+      ap (λ j. read value G s' (sections_items decoded size file j (n - j))) i'-is
+      ∙ sym (read_through value G s s' here left (section_here (Ok tt) e))
+      ∙ sym sections_split
 
-    pub section_stops : (f : FileFault) → ended (Err f) s' ≡ read value H s (section_items decoded size bytes start) → ended (Err f) s' ≡ read value G s (sections_items decoded size file i (n - i))
-    section_stops f e = read_stopped value G s s' f here left (section_here (Err f) e) ∙ sym sections_split
+  pub section_stops : (f : FileFault) → ended (Err f) s' ≡ read value H s (section_items decoded size bytes start) → ended (Err f) s' ≡ read value G s (sections_items decoded size file i (n - i))
+  section_stops f e = read_stopped value G s s' f here left (section_here (Err f) e) ∙ sym sections_split
