@@ -21,8 +21,12 @@ impl<'a> Directory<'a> {
     // before it, and ends within the file.
     #[tactic(auto, using(crate::proofs::Fitting::all_placed, crate::proofs::Fitting::directory_parts))]
     pub fn new(file: &'a [u8]) -> Result<Directory<'a>, FileFault>
-        ensures value { MatchResult result (λ d. (directory_of file.now ≡ Ok d.header) × (d.file.now ≡ file.now)) (λ f. directory_of file.now ≡ Err f) }
-        ensures placed { IfOk result (λ d. (i : ℕ) → i < d.header.sections → Placed file.now d.header.sections i) }
+        ensures value { let found = directory_of file.now in
+            MatchResult result
+            (λ d. (found ≡ Ok d.header) × (d.file.now ≡ file.now))
+            (λ f. found ≡ Err f) }
+        ensures placed { IfOk result (λ d. let n = d.header.sections in
+            (i : ℕ) → i < n → Placed file.now n i) }
     {
         let header = Header::read(file)?;
         check_pairs(file, header.sections)?;
@@ -54,7 +58,13 @@ impl<'a> Directory<'a> {
     // the directory was checked.
     #[tactic(auto, using(crate::proofs::Fitting::section_within))]
     pub fn section(&self, i: usize) -> Option<Section<'a>>
-        ensures { MatchOption result (self.now.header.sections ≤ i) (λ s. (i < self.now.header.sections) × (s.offset ≡ section_start self.now.file.now i) × (s.bytes.now ≡ section_bytes self.now.file.now i)) }
+        ensures { let file = self.now.file.now in
+            let n = self.now.header.sections in
+            MatchOption result
+            (n ≤ i)
+            (λ s. (i < n)
+            × (s.offset ≡ section_start file i)
+            × (s.bytes.now ≡ section_bytes file i)) }
     {
         let sections = self.header.sections;
         if i >= sections as usize {

@@ -16,7 +16,11 @@ pub(crate) struct Pair {
 impl Pair {
     // The pair that stands at a place in the file.
     pub(crate) fn read(file: &[u8], at: usize) -> Option<Pair>
-        ensures { MatchOption result (length file.now < at + 8) (λ p. (at + 8 ≤ length file.now) × (p.offset ≡ big32 file.now at) × (p.length ≡ big32 file.now (at + 4))) }
+        ensures { MatchOption result
+            (length file.now < at + 8)
+            (λ p. (at + 8 ≤ length file.now)
+            × (p.offset ≡ big32 file.now at)
+            × (p.length ≡ big32 file.now (at + 4))) }
     {
         let [a, b, c, d, e, f, g, h, ..] = file.get(at..)? else {
             return None;

@@ -1,8 +1,7 @@
-ghost use Rattle.std.specs.Prelude.{◌≡◌, true, false, length, drop, MatchResult, slice_index};
-ghost use Rattle.record_file.specs.Records.{whole, record_size, record_of};
+ghost use Rattle.std.specs.Prelude.{◌≡◌};
+ghost use Rattle.record_file.specs.Records.{record_size, record_of};
 
 use crate::fault::FileFault;
-use crate::section::Section;
 use operations::{Kind, Operation};
 use words::Word;
 
@@ -28,33 +27,6 @@ pub fn record_bytes<W: Word>() -> usize
     ensures { result ≡ record_size W.Word.WIDTH }
 {
     4 + W::WIDTH
-}
-
-impl<'a> Section<'a> {
-    // Takes the section apart, if it is a processor's byte and whole records.
-    pub fn records<W: Word>(self) -> Result<Records<'a>, FileFault>
-        ensures { let section = self.entry in
-            let fit = whole W.Word.size section.bytes.now in
-            MatchResult result
-            (λ r. (fit ≡ true)
-            × (r.processor ≡ slice_index section.bytes.now 0)
-            × (r.offset ≡ section.offset)
-            × (r.bytes.now ≡ drop 1 section.bytes.now))
-            (λ f. (fit ≡ false) × (f ≡ FileFault.Section section.offset)) }
-    {
-        let unfit = FileFault::Section(self.offset);
-        let [processor, bytes @ ..] = self.bytes else {
-            return Err(unfit);
-        };
-        if bytes.len() % record_bytes::<W>() != 0 {
-            return Err(unfit);
-        }
-        Ok(Records {
-            processor: *processor,
-            offset: self.offset,
-            bytes,
-        })
-    }
 }
 
 impl Record<'_> {
