@@ -34,6 +34,7 @@ fn note(partners: &mut [Option<u16>], admitted: Admitted)
 }
 
 impl<'a, W: Word, K: Keeper, R: PairingRule> Admitting<'a, W, K, R> {
+    // As a call, so that all that is lent gets one lifetime, which the methods' `&mut self` needs.
     fn new(
         exam: &'a mut Open,
         log: &'a mut [Operation<W>],
@@ -59,16 +60,16 @@ impl<'a, W: Word, K: Keeper, R: PairingRule> Admitting<'a, W, K, R> {
     }
 
     // Admits the operation of a record, and notes its racing partner.
-    fn admit_record(&mut self, record: Record<'_>) -> Result<(), FileFault>
+    fn admit_record(&mut self, next: Record<'_>) -> Result<(), FileFault>
         ensures read { let G = setting (R.PairingRule.pairs self.old.rule.now) W.Word.start in
-            let r = «record».entry in
+            let r = next.entry in
             ended result (worked_on K.Keeper.meaning self.new)
             ≡ read W.Word.value G (worked_on K.Keeper.meaning self.old)
             (and_then r.offset (record_of W.Word.decoded W.Word.size r.processor r.bytes.now r.offset) []) }
         ensures loans { KeepsLoans self.old self.new }
     {
-        let offset = record.offset;
-        let operation = record.operation::<W>()?;
+        let offset = next.offset;
+        let operation = next.operation::<W>()?;
         let admitted = self
             .exam
             .admit(self.log, self.keeper, self.rule, operation)

@@ -13,7 +13,7 @@ returns-clause-read g c =
     let s = c.args.self.now in
     let G = setting (g.R.PairingRule.pairs s.rule.now) g.W.Word.start in
     let o = c.in_ok-operation.operation in
-    let at = c.args.record.offset in
+    let at = c.args.next.offset in
     let is : c.admit.result ≡ Ok c.in_ok-admitted.admitted = grind arith in
     one_admitted v G s.log.now (m s.keeper.now) s.exam.now s.partners.now o at c.in_ok-admitted.admitted (sym is ∙ c.admit.ensures.answer) c.admit.new.log (m c.admit.new.keeper) c.admit.new.self c.admit.ensures.after
     (c.admit.ensures.written ∙ ap (recorded s.log.now s.exam.now.admitted o) is) c.note.new.partners c.note.ensures
