@@ -65,7 +65,7 @@ impl<'a, W: Word, K: Keeper, R: PairingRule> Admitting<'a, W, K, R> {
             let r = next.entry in
             ended result (worked_on K.Keeper.meaning self.new)
             ≡ read W.Word.value G (worked_on K.Keeper.meaning self.old)
-            (and_then r.offset (record_of W.Word.decoded W.Word.size r.processor r.bytes.now r.offset) []) }
+            (and_then r.offset (record_of W.Word.decoded W.Word.WIDTH r.processor r.bytes.now r.offset) []) }
         ensures loans { KeepsLoans self.old self.new }
     {
         let offset = next.offset;
@@ -85,7 +85,7 @@ impl<'a, W: Word, K: Keeper, R: PairingRule> Admitting<'a, W, K, R> {
             let r = records.entry in
             ended result (worked_on K.Keeper.meaning self.new)
             ≡ read W.Word.value G (worked_on K.Keeper.meaning self.old)
-            (rest_items W.Word.decoded W.Word.size r.processor r.bytes.now (r.offset + 1)) }
+            (rest_items W.Word.decoded W.Word.WIDTH r.processor r.bytes.now (r.offset + 1)) }
         ensures loans { KeepsLoans self.old self.new }
     {
         let size = record_bytes::<W>();
@@ -105,7 +105,7 @@ impl<'a, W: Word, K: Keeper, R: PairingRule> Admitting<'a, W, K, R> {
         ensures read { let G = setting (R.PairingRule.pairs self.old.rule.now) W.Word.start in
             ended result (worked_on K.Keeper.meaning self.new)
             ≡ read W.Word.value G (worked_on K.Keeper.meaning self.old)
-            (section_items W.Word.decoded W.Word.size section.entry.bytes.now section.entry.offset) }
+            (section_items W.Word.decoded W.Word.WIDTH section.entry.bytes.now section.entry.offset) }
         ensures loans { KeepsLoans self.old self.new }
     {
         self.admit_records(section.records::<W>()?)
@@ -125,7 +125,7 @@ pub fn admit_file<W: Word, K: Keeper, R: PairingRule>(
     ensures { let G = setting (R.PairingRule.pairs rule.now) W.Word.start in
         let before = reading log.old (K.Keeper.meaning keeper.old) exam.old partners.old in
         let after = reading log.new (K.Keeper.meaning keeper.new) exam.new partners.new in
-        ended result after ≡ read W.Word.value G before (file_items W.Word.decoded W.Word.size file.now) }
+        ended result after ≡ read W.Word.value G before (file_items W.Word.decoded W.Word.WIDTH file.now) }
 {
     let directory = Directory::new(file)?;
     let mut admitting = Admitting::new(exam, log, keeper, rule, partners);

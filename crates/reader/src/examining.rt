@@ -21,14 +21,14 @@ pub fn examine<W: Word, K: Keeper, R: PairingRule>(
     partners: &mut [Option<u16>],
 ) -> Result<Verdict, FileFault>
     ensures outcome { let G = setting (R.PairingRule.pairs rule.now) W.Word.start in
-        let items = file_items W.Word.decoded W.Word.size file.now in
+        let items = file_items W.Word.decoded W.Word.WIDTH file.now in
         let before = K.Keeper.meaning keeper.old in
         let after = K.Keeper.meaning keeper.new in
         record { answer = answered result; log = log.new; keeper = after; partners = partners.new }
         ≡ examined W.Word.value G log.old before partners.old items }
     ensures exact { let G = setting (R.PairingRule.pairs rule.now) W.Word.start in
         Told (run_of W.Word.value G log.new (K.Keeper.meaning keeper.new)) result }
-    ensures complete { let items = file_items W.Word.decoded W.Word.size file.now in
+    ensures complete { let items = file_items W.Word.decoded W.Word.WIDTH file.now in
         let admitted = take (held (K.Keeper.meaning keeper.new)) log.new in
         held (K.Keeper.meaning keeper.old) ≡ 0 → Listed (operations_in items) admitted result }
 {

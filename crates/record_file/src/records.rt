@@ -33,13 +33,13 @@ impl Record<'_> {
     // The operation that the record stands for. Bytes that are not one record long are no record.
     pub fn operation<W: Word>(self) -> Result<Operation<W>, FileFault>
         ensures { let r = self.entry in
-            result ≡ record_of W.Word.decoded W.Word.size r.processor r.bytes.now r.offset }
+            result ≡ record_of W.Word.decoded W.Word.WIDTH r.processor r.bytes.now r.offset }
     {
         let [kind, class, high, low, word @ ..] = self.bytes else {
             return Err(FileFault::Section(self.offset));
         };
         let word = W::decode(word).ok_or(FileFault::Section(self.offset))?;
-        let kind = Kind::from_code(*kind).ok_or(FileFault::Kind(self.offset))?;
+        let kind = Kind::try_from(*kind).map_err(|_| FileFault::Kind(self.offset))?;
         Ok(Operation {
             processor: self.processor,
             kind,

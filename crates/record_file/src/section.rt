@@ -17,7 +17,7 @@ impl<'a> Section<'a> {
     pub fn records<W: Word>(self) -> Result<Records<'a>, FileFault>
         ensures { let bytes = self.entry.bytes.now in
             let offset = self.entry.offset in
-            let fit = whole W.Word.size bytes in
+            let fit = whole W.Word.WIDTH bytes in
             MatchResult result
             (λ r. (fit ≡ true)
             × (r.processor ≡ slice_index bytes 0)

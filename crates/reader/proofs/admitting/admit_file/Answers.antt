@@ -19,7 +19,7 @@ loop-section-preserved g c =
     let start = found.2 ∙ ap (λ x. section_start x.file.now i) same in (
       search rules,
       search rules,
-      section_passes g.W.Word.value _ _ rule g.W.Word.decoded g.W.Word.size (worked_on m l.admitting) (worked_on m c.admit_section.new.self) d.file.now c.in-Some.section.bytes.now d.header.sections i c.in-Some.section.offset less bytes start _ found.1 c.in_ok-admit_section.ensures.read
+      section_passes g.W.Word.value _ _ rule g.W.Word.decoded g.W.Word.WIDTH (worked_on m l.admitting) (worked_on m c.admit_section.new.self) d.file.now c.in-Some.section.bytes.now d.header.sections i c.in-Some.section.offset less bytes start _ found.1 c.in_ok-admit_section.ensures.read
           ∙ l.invariant.2,
     )
 
@@ -35,5 +35,5 @@ returns-in_err-admit_section g c =
     let less = subst (λ x. i < x.header.sections) same found.0 in
     let bytes = found.3 ∙ ap (λ x. section_bytes x.file.now i) same in
     let start = found.2 ∙ ap (λ x. section_start x.file.now i) same in
-    let stops = section_stops g.W.Word.value _ _ rule g.W.Word.decoded g.W.Word.size (worked_on m l.admitting) (worked_on m c.admit_section.new.self) d.file.now c.in-Some.section.bytes.now d.header.sections i c.in-Some.section.offset less bytes start c.in_err-admit_section.field-0.0 c.in_err-admit_section.ensures.read ∙ l.invariant.2 in
+    let stops = section_stops g.W.Word.value _ _ rule g.W.Word.decoded g.W.Word.WIDTH (worked_on m l.admitting) (worked_on m c.admit_section.new.self) d.file.now c.in-Some.section.bytes.now d.header.sections i c.in-Some.section.offset less bytes start c.in_err-admit_section.field-0.0 c.in_err-admit_section.ensures.read ∙ l.invariant.2 in
     search rules

@@ -12,7 +12,7 @@ invariant-loop-section g l =
     let v = g.W.Word.value in
     let G = setting (g.R.PairingRule.pairs l.initial.admitting.rule.now) g.W.Word.start in
     let m = g.K.Keeper.meaning in
-    let items = sections_items g.W.Word.decoded g.W.Word.size d.file.now in
+    let items = sections_items g.W.Word.decoded g.W.Word.WIDTH d.file.now in
     (l.section-iterator.directory ≡ d)
     × KeepsLoans l.initial.admitting l.admitting
     × (read v G (worked_on m l.admitting) (items i (d.header.sections - i)) ≡ read v G (worked_on m l.initial.admitting) (items 0 d.header.sections))

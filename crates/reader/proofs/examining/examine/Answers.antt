@@ -32,7 +32,7 @@ returns-in_err-admit_file-clause-complete g c =
     let o = c.in_ok-exam.exam in
     let is : c.new.result ≡ Ok o = grind arith in
     let opens : Ok (tally o) ≡ opening m = ap opened (sym is) ∙ c.new.ensures in
-    let items = file_items g.W.Word.decoded g.W.Word.size c.args.file.now in
+    let items = file_items g.W.Word.decoded g.W.Word.WIDTH c.args.file.now in
     let p = err_from_is_err_and c.from_residual-in_err-admit_file.result c.from_residual-in_err-admit_file.ensures.1 in
     let some = listed_some g.W.Word.value G c.args.log.now m o c.args.partners.now _ opens _ _ c.in_err-admit_file.ensures in
     λ _. subst (Listed (operations_in items) (take (held (g.K.Keeper.meaning c.admit_file.new.keeper)) c.admit_file.new.log)) (sym (p.1 ∙ ap Err p.2)) some

@@ -22,7 +22,7 @@ loop-i-preserved g c =
       step.0.0 ∙ l.invariant.0,
       omega (arith, ap (λ n. n * k) step.2, long, ap length step.0.1.0, length-append c.in-Some.bytes.now zs, l.invariant.1),
       search rules,
-      record_passes g.W.Word.value _ _ rule g.W.Word.decoded g.W.Word.size r.processor (worked_on m l.self) (worked_on m c.admit_record.new.self) _ c.in-Some.bytes.now zs (r.offset + 1) k c.in-Some.i _ c.record_bytes-size.ensures step.0.1.0 long step.1 _ step.2 c.in_ok-admit_record.ensures.read
+      record_passes g.W.Word.value _ _ rule g.W.Word.decoded g.W.Word.WIDTH r.processor (worked_on m l.self) (worked_on m c.admit_record.new.self) _ c.in-Some.bytes.now zs (r.offset + 1) k c.in-Some.i _ c.record_bytes-size.ensures step.0.1.0 long step.1 _ step.2 c.in_ok-admit_record.ensures.read
           ∙ l.invariant.3,
     )
 
@@ -35,7 +35,7 @@ returns-in_err-admit_record-clause-read g c =
     let step = c.in-Some.ensures.steps in
     let zs = chunks_exact_rest (enumerate_source c.next.new.self) in
     let rule = ap (λ q. setting (g.R.PairingRule.pairs q.now) g.W.Word.start) l.invariant.2.rule in
-    let stops = record_stops g.W.Word.value _ _ rule g.W.Word.decoded g.W.Word.size r.processor (worked_on m l.self) (worked_on m c.admit_record.new.self) _ c.in-Some.bytes.now zs (r.offset + 1) k c.in-Some.i _ c.record_bytes-size.ensures step.0.1.0 (step.0.1.1 ∙ l.invariant.0) step.1 c.in_err-admit_record.field-0.0 c.in_err-admit_record.ensures.read ∙ l.invariant.3 in
+    let stops = record_stops g.W.Word.value _ _ rule g.W.Word.decoded g.W.Word.WIDTH r.processor (worked_on m l.self) (worked_on m c.admit_record.new.self) _ c.in-Some.bytes.now zs (r.offset + 1) k c.in-Some.i _ c.record_bytes-size.ensures step.0.1.0 (step.0.1.1 ∙ l.invariant.0) step.1 c.in_err-admit_record.field-0.0 c.in_err-admit_record.ensures.read ∙ l.invariant.3 in
     search rules
 
 pub returns-clause-read : goal.returns-clause-read
@@ -45,5 +45,5 @@ returns-clause-read g c =
     let step = c.in-None.ensures.steps in
     let rest = chunks_exact_rest (enumerate_source l.i-iterator) in
     let at = r.offset + 1 + enumerate_count l.i-iterator * c.record_bytes-size.result in
-    sym (ap (read g.W.Word.value (setting (g.R.PairingRule.pairs c.args.self.now.rule.now) g.W.Word.start) (worked_on g.K.Keeper.meaning l.self)) (records_none g.W.Word.decoded g.W.Word.size r.processor rest at (omega (arith, step.0.1.0, l.invariant.0, c.record_bytes-size.ensures))))
+    sym (ap (read g.W.Word.value (setting (g.R.PairingRule.pairs c.args.self.now.rule.now) g.W.Word.start) (worked_on g.K.Keeper.meaning l.self)) (records_none g.W.Word.decoded g.W.Word.WIDTH r.processor rest at (omega (arith, step.0.1.0, l.invariant.0, c.record_bytes-size.ensures))))
     ∙ l.invariant.3

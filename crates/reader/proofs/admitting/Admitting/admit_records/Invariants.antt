@@ -15,7 +15,7 @@ invariant-loop-i g l =
     let v = g.W.Word.value in
     let G = setting (g.R.PairingRule.pairs l.initial.self.rule.now) g.W.Word.start in
     let m = g.K.Keeper.meaning in
-    let items = rest_items g.W.Word.decoded g.W.Word.size r.processor in
+    let items = rest_items g.W.Word.decoded g.W.Word.WIDTH r.processor in
     (chunks_exact_size (enumerate_source l.i-iterator) ≡ l.size)
     × (at + length left < 2 ^ 64)
     × KeepsLoans l.initial.self l.self
