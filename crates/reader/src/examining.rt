@@ -8,7 +8,7 @@ use crate::admitting::admit_file;
 use examination::{Open, Verdict};
 use keepers::Keeper;
 use operations::{Operation, PairingRule};
-use record_file::{AtOffset, FileFault};
+use record_file::{FileFault, Placed};
 use words::Word;
 
 // Opens an examination, admits the operations of a record file in turn, and closes. The racing partner of each
@@ -20,11 +20,19 @@ pub fn examine<W: Word, K: Keeper, R: PairingRule>(
     rule: &R,
     partners: &mut [Option<u16>],
 ) -> Result<Verdict, FileFault>
-    ensures outcome { record { answer = answered result; log = log.new; keeper = K.Keeper.meaning keeper.new; partners = partners.new } ≡ examined W.Word.value (setting (R.PairingRule.pairs rule.now) W.Word.start) log.old (K.Keeper.meaning keeper.old) partners.old (file_items W.Word.decoded W.Word.WIDTH file.now) }
-    ensures exact { Told (run_of W.Word.value (setting (R.PairingRule.pairs rule.now) W.Word.start) log.new (K.Keeper.meaning keeper.new)) result }
-    ensures complete { held (K.Keeper.meaning keeper.old) ≡ 0 → Listed (operations_in (file_items W.Word.decoded W.Word.WIDTH file.now)) (take (held (K.Keeper.meaning keeper.new)) log.new) result }
+    ensures outcome { let G = setting (R.PairingRule.pairs rule.now) W.Word.start in
+        let items = file_items W.Word.decoded W.Word.WIDTH file.now in
+        let before = K.Keeper.meaning keeper.old in
+        let after = K.Keeper.meaning keeper.new in
+        record { answer = answered result; log = log.new; keeper = after; partners = partners.new }
+        ≡ examined W.Word.value G log.old before partners.old items }
+    ensures exact { let G = setting (R.PairingRule.pairs rule.now) W.Word.start in
+        Told (run_of W.Word.value G log.new (K.Keeper.meaning keeper.new)) result }
+    ensures complete { let items = file_items W.Word.decoded W.Word.WIDTH file.now in
+        let admitted = take (held (K.Keeper.meaning keeper.new)) log.new in
+        held (K.Keeper.meaning keeper.old) ≡ 0 → Listed (operations_in items) admitted result }
 {
-    let mut exam = Open::new(keeper).at(0)?;
+    let mut exam = Open::new(keeper).map_err(|fault| Placed { offset: 0, fault })?;
     admit_file(file, &mut exam, log, keeper, rule, partners)?;
     Ok(exam.close())
 }

@@ -1,5 +1,3 @@
-pub mod Reading
 pub mod Walk
 pub mod Fitting
-pub mod Decoding
 pub mod Items

@@ -1,4 +1,3 @@
-pub mod Placing
 pub mod Refusals
 pub mod WordTypes
 pub mod Directory

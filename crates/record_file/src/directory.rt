@@ -5,6 +5,7 @@ use crate::fault::FileFault;
 use crate::header::Header;
 use crate::pair::{Pair, check_pairs, pair_place};
 use crate::section::Section;
+use crate::sections::Sections;
 use crate::word_type::WordType;
 
 // A file whose directory was checked.
@@ -12,14 +13,20 @@ use crate::word_type::WordType;
 pub struct Directory<'a> {
     file: &'a [u8],
     header: Header,
+    ghost checked: { directory_of file.now ≡ Ok header },
 }
 
 impl<'a> Directory<'a> {
     // Checks the whole directory: each section starts at or after the end of the directory and of the section
     // before it, and ends within the file.
+    #[tactic(auto, using(crate::proofs::Fitting::all_placed, crate::proofs::Fitting::directory_parts))]
     pub fn new(file: &'a [u8]) -> Result<Directory<'a>, FileFault>
-        ensures value { MatchResult result (λ d. (directory_of file.now ≡ Ok d.header) × (d.file.now ≡ file.now)) (λ f. directory_of file.now ≡ Err f) }
-        ensures placed { IfOk result (λ d. (i : ℕ) → i < d.header.sections → Placed file.now d.header.sections i) }
+        ensures value { let found = directory_of file.now in
+            MatchResult result
+            (λ d. (found ≡ Ok d.header) × (d.file.now ≡ file.now))
+            (λ f. found ≡ Err f) }
+        ensures placed { IfOk result (λ d. let n = d.header.sections in
+            (i : ℕ) → i < n → Placed file.now n i) }
     {
         let header = Header::read(file)?;
         check_pairs(file, header.sections)?;
@@ -38,10 +45,26 @@ impl<'a> Directory<'a> {
         self.header.sections as usize
     }
 
+    pub fn iter(&self) -> Sections<'a>
+        ensures { (result.directory ≡ self.now) × (result.numbers.start ≡ 0) }
+    {
+        Sections {
+            directory: *self,
+            numbers: 0..self.sections(),
+        }
+    }
+
     // Section i; none from the number of sections on. The pair and the bytes of an earlier one are there, since
     // the directory was checked.
+    #[tactic(auto, using(crate::proofs::Fitting::section_within))]
     pub fn section(&self, i: usize) -> Option<Section<'a>>
-        ensures { MatchOption result (directory_of self.now.file.now ≡ Ok self.now.header → self.now.header.sections ≤ i) (λ s. (i < self.now.header.sections) × (s.offset ≡ section_start self.now.file.now i) × (s.bytes.now ≡ section_bytes self.now.file.now i)) }
+        ensures { let file = self.now.file.now in
+            let n = self.now.header.sections in
+            MatchOption result
+            (n ≤ i)
+            (λ s. (i < n)
+            × (s.offset ≡ section_start file i)
+            × (s.bytes.now ≡ section_bytes file i)) }
     {
         let sections = self.header.sections;
         if i >= sections as usize {

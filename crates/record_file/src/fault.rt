@@ -28,11 +28,11 @@ impl From<Placed> for FileFault {
     }
 }
 
-impl FileFault {
-    pub fn refusal(self) -> Refusal
-        ensures { result ≡ file_refusal self }
-    {
-        let (number, offset) = match self {
+impl From<FileFault> for Refusal {
+    ghost from_gives = { λ f r. r ≡ file_refusal f };
+
+    fn from(fault: FileFault) -> Refusal {
+        let (number, offset) = match fault {
             FileFault::Header => (17, 0),
             FileFault::Pair(offset) => (17, offset),
             FileFault::Section(offset) => (18, offset),

@@ -21,9 +21,7 @@ impl Header {
         let [code, high, low, ..] = file else {
             return Err(FileFault::Header);
         };
-        let Some(word_type) = WordType::from_code(*code) else {
-            return Err(FileFault::Header);
-        };
+        let word_type = WordType::try_from(*code)?;
         let sections = u16::from_be_bytes([*high, *low]);
         if pair_place(sections) > file.len() {
             return Err(FileFault::Header);

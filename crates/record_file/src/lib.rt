@@ -12,11 +12,13 @@ mod pair;
 mod placed;
 mod records;
 mod section;
+mod sections;
 mod word_type;
 
 pub use directory::Directory;
 pub use fault::FileFault;
-pub use placed::{AtOffset, Placed};
-pub use records::{Records, read_record, record_bytes, records_of};
+pub use placed::Placed;
+pub use records::{Record, Records, record_bytes};
 pub use section::Section;
+pub use sections::Sections;
 pub use word_type::WordType;

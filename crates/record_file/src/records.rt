@@ -1,15 +1,24 @@
-ghost use Rattle.std.specs.Prelude.{◌≡◌, true, false, length, drop, MatchResult, slice_index};
-ghost use Rattle.record_file.specs.Records.{whole, record_size, operation_of, record_of};
+ghost use Rattle.std.specs.Prelude.{◌≡◌};
+ghost use Rattle.record_file.specs.Records.{record_size, record_of};
 
 use crate::fault::FileFault;
-use crate::section::Section;
 use operations::{Kind, Operation};
 use words::Word;
 
-// The records of a section: its processor, and the bytes after that.
+// The records of a section: its processor, where the section stands in the file, and the bytes after the
+// processor's.
 #[derive(Clone, Copy)]
 pub struct Records<'a> {
     pub processor: u8,
+    pub offset: usize,
+    pub bytes: &'a [u8],
+}
+
+// A record of a processor, and where it stands in the file.
+#[derive(Clone, Copy)]
+pub struct Record<'a> {
+    pub processor: u8,
+    pub offset: usize,
     pub bytes: &'a [u8],
 }
 
@@ -20,60 +29,23 @@ pub fn record_bytes<W: Word>() -> usize
     4 + W::WIDTH
 }
 
-// Takes a section apart, if it is a processor's byte and whole records.
-pub fn records_of<'a, W: Word>(section: Section<'a>) -> Result<Records<'a>, FileFault>
-    ensures { MatchResult result (λ s. (whole W.Word.WIDTH section.entry.bytes.now ≡ true) × (s.processor ≡ slice_index section.entry.bytes.now 0) × (s.bytes.now ≡ drop 1 section.entry.bytes.now)) (λ f. (whole W.Word.WIDTH section.entry.bytes.now ≡ false) × (f ≡ FileFault.Section section.entry.offset)) }
-{
-    let [processor, bytes @ ..] = section.bytes else {
-        return Err(FileFault::Section(section.offset));
-    };
-    if bytes.len() % record_bytes::<W>() != 0 {
-        return Err(FileFault::Section(section.offset));
+impl Record<'_> {
+    // The operation that the record stands for. Bytes that are not one record long are no record.
+    pub fn operation<W: Word>(self) -> Result<Operation<W>, FileFault>
+        ensures { let r = self.entry in
+            result ≡ record_of W.Word.decoded W.Word.WIDTH r.processor r.bytes.now r.offset }
+    {
+        let [kind, class, high, low, word @ ..] = self.bytes else {
+            return Err(FileFault::Section(self.offset));
+        };
+        let word = W::decode(word).ok_or(FileFault::Section(self.offset))?;
+        let kind = Kind::try_from(*kind).map_err(|_| FileFault::Kind(self.offset))?;
+        Ok(Operation {
+            processor: self.processor,
+            kind,
+            class: *class,
+            location: u16::from_be_bytes([*high, *low]),
+            word,
+        })
     }
-    Ok(Records {
-        processor: *processor,
-        bytes,
-    })
-}
-
-// The operation that a whole record stands for.
-fn operation_at<W: Word>(
-    processor: u8,
-    bytes: &[u8],
-    offset: usize,
-) -> Result<Operation<W>, FileFault>
-    requires { length bytes.now ≡ record_size W.Word.WIDTH }
-    ensures { result ≡ operation_of W.Word.decoded processor bytes.now offset }
-{
-    let [kind, class, high, low, word @ ..] = bytes else {
-        return unreachable();
-    };
-    let Ok(kind) = Kind::try_from(*kind) else {
-        return Err(FileFault::Kind(offset));
-    };
-    let Some(word) = W::decode(word) else {
-        return unreachable();
-    };
-    Ok(Operation {
-        processor,
-        kind,
-        class: *class,
-        location: u16::from_be_bytes([*high, *low]),
-        word,
-    })
-}
-
-// The operation of a processor that a record stands for, which begins at `offset` in the file. Bytes that are
-// not one record long are no record.
-pub fn read_record<W: Word>(
-    processor: u8,
-    bytes: &[u8],
-    offset: usize,
-) -> Result<Operation<W>, FileFault>
-    ensures { result ≡ record_of W.Word.decoded W.Word.WIDTH processor bytes.now offset }
-{
-    if bytes.len() != record_bytes::<W>() {
-        return Err(FileFault::Section(offset));
-    }
-    operation_at(processor, bytes, offset)
 }
