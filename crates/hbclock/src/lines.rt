@@ -1,5 +1,5 @@
-use examination::{RacingPair, Verdict};
-use keepers::Adds;
+use examination::{Examination, RacingPair, Verdict};
+use keepers::{Adds, Refusal};
 use operations::Operation;
 use record_file::FileFault;
 use std::fmt;
@@ -46,7 +46,7 @@ impl From<Verdict> for Ending {
 
 impl From<FileFault> for Ending {
     fn from(fault: FileFault) -> Ending {
-        let refusal = fault.refusal();
+        let refusal = Refusal::from(fault);
         let Adds::Offset(offset) = refusal.adds else {
             return unreachable();
         };

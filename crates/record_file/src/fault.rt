@@ -6,7 +6,7 @@ use crate::placed::Placed;
 use keepers::{Adds, Refusal};
 
 // Why a record file is refused; all but the header's fault say where in the file it stands.
-#[derive(Clone, Copy, PartialEq, Debug)]
+#[derive(Clone, Copy, PartialEq, Eq, Debug)]
 pub enum FileFault {
     // The header or the word type is unfit, or the directory goes past the file's end.
     Header,
@@ -37,7 +37,7 @@ impl From<FileFault> for Refusal {
             FileFault::Pair(offset) => (17, offset),
             FileFault::Section(offset) => (18, offset),
             FileFault::Kind(offset) => (19, offset),
-            FileFault::Record(placed) => (placed.fault.refusal().number, placed.offset),
+            FileFault::Record(placed) => (Refusal::from(placed.fault).number, placed.offset),
         };
         Refusal {
             number,
