@@ -2,7 +2,7 @@
 use Rattle.std.proofs.Common.{◌≡◌, ℕ, zero, suc, ◌+◌, ◌<◌, ◌≤◌, cond, eqb, ltb, List, [], ◌∷◌, length, get_or, take, drop, sym, refl, ap, ◌∙◌, ⊎_elim, arith, length-drop}
 use Rattle.std.proofs.lemmas.List.{get_or-take, length-take-le}
 use Rattle.std.proofs.lemmas.List.Sums.{sum_by-cons, sum_by-take-drop, sum_by-drop_more, get_or-le-sum_by, count_by-le-length, position_or_len_is, passes_at_first}
-use Rattle.std.proofs.lemmas.Bool.{cases_eq, cases_lt, eq-eqb, eqb-true, ne_eqb, le-ltb}
+use Rattle.std.proofs.lemmas.Bool.{cases_lt, eq-eqb, eqb-true, ne_eqb, le-ltb}
 use Rattle.std.proofs.lemmas.Bool.Decides.{nat_tests}
 use Rattle.std.specs.List.{count_by}
 use Rattle.layers.specs.Renumbering.{times, Once, place}
@@ -63,8 +63,4 @@ place_entry xs l o p h = place_only xs (get_or xs p 0) p (omega arith) refl (o (
 
 -- q stands at p: the test by place, and the test by entry
 pub same_test : (xs : List ℕ) → length xs ≡ 16 → Once xs → (q p : ℕ) → p < 16 → eqb (place xs q) p ≡ eqb q (get_or xs p 0)
-same_test xs l o q p h =
-    ⊎_elim
-    (λ e. eq-eqb (place xs q) p e ∙ sym (eq-eqb q (get_or xs p 0) (sym (place_at xs q p (omega arith) e))))
-    (λ n. ne_eqb (place xs q) p n ∙ sym (ne_eqb q (get_or xs p 0) (λ e. n (ap (place xs) e ∙ place_entry xs l o p h))))
-    (cases_eq (place xs q) p)
+same_test xs l o q p h = grind (arith, nat_tests, place_at, place_entry)

@@ -1,10 +1,9 @@
 -- What a renumber layer does to a keeper's meaning. Assumes nothing.
-use Rattle.std.proofs.Common.{◌≡◌, ℕ, ◌-◌, ◌<◌, true, cond, ◌&&◌, ◌||◌, eqb, ltb, List, [], ◌∷◌, ◌++◌, map, length, get_or, Some, None, Ok, Err, Option, Result, sym, refl, ap, ◌∙◌, arith}
+use Rattle.std.proofs.Common.{◌≡◌, ℕ, ◌-◌, ◌<◌, eqb, ltb, List, [], ◌∷◌, ◌++◌, map, length, get_or, Some, None, Ok, Err, Option, Result, sym, refl, ap, ◌∙◌, arith}
 use mathlib.Core.Path.{fun_ext}
 use lib.ListN.{length-map}
 use Rattle.std.proofs.lemmas.List.{map_push, get_or-map}
 use Rattle.std.proofs.lemmas.Bool.Decides.{nat_tests}
-use Rattle.std.proofs.lemmas.Bool.{lt-ltb}
 use Rattle.keepers.specs.Meaning.{Meaning, held, most_processors}
 use Rattle.keepers.specs.Adding.{latest_of, latest, reaches, added, addition, answered, after_addition, giver_held}
 use Rattle.keepers.specs.declared.fault.KeeperFault.{KeeperFault}
@@ -30,11 +29,7 @@ module _ (xs : List ℕ) (m : Meaning) where
 
   module _ (l : length xs ≡ 16) (o : Once xs) (p : ℕ) (h : p < 16) where
     addition_same : (g : Option ℕ) → addition R p g ≡ addition m (get_or xs p 0) g
-    addition_same g =
-        let t : ltb p 16 ≡ true = lt-ltb p 16 h in
-        let u : giver_held R g ≡ giver_held m g = giver_same g in
-        let v : held R ≡ held m = held_same in
-        simp (t, u, v)
+    addition_same g = let given = giver_same g in let count = held_same in grind (arith, nat_tests)
 
     latest_same : latest R p ≡ latest m (get_or xs p 0)
     latest_same =
@@ -43,10 +38,10 @@ module _ (xs : List ℕ) (m : Meaning) where
 
     before_same : (g : Option ℕ) → (added R p g).before ≡ (added m (get_or xs p 0) g).before
     before_same g = fun_ext (λ a. fun_ext (λ b.
-        ap (λ n. ltb a n && cond (eqb b n) (reaches R a g || reaches R a (latest R p)) (m.before a b)) held_same
-        ∙ ap (λ z. ltb a (held m) && cond (eqb b (held m)) (z || reaches R a (latest R p)) (m.before a b)) (reaches_same a g)
-        ∙ ap (λ z. ltb a (held m) && cond (eqb b (held m)) (reaches m a g || reaches R a z) (m.before a b)) latest_same
-        ∙ ap (λ z. ltb a (held m) && cond (eqb b (held m)) (reaches m a g || z) (m.before a b)) (reaches_same a (latest m (get_or xs p 0)))))
+        let count = held_same in
+        let its : Option ℕ = latest m (get_or xs p 0) in
+        let same : reaches R a (latest R p) ≡ reaches m a its = ap (reaches R a) latest_same ∙ reaches_same a its in
+        grind (arith, nat_tests, reaches_same a g)))
 
     processors_same : (g : Option ℕ) → (added R p g).processors ≡ map (place xs) (added m (get_or xs p 0) g).processors
     processors_same g = ap (λ q. map (place xs) m.processors ++ (q ∷ [])) (sym (place_entry xs l o p h)) ∙ sym (map_push (place xs) m.processors (get_or xs p 0))
