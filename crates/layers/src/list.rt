@@ -26,8 +26,8 @@ impl RenumberList {
 
     // Sets the whole list, or refuses and leaves it as it was.
     pub fn set(&mut self, entries: [u8; 16]) -> Result<(), KeeperFault>
-        ensures { let refused = (Once entries → ⊥) × (self.new.entries ≡ self.old.entries) in
-            MatchResult result (λ _. self.new.entries ≡ entries) (λ f. (f ≡ KeeperFault.Unfit) × refused) }
+        ensures { MatchResult result (λ _. self.new.entries ≡ entries)
+            (λ f. (f ≡ KeeperFault.Unfit) × (Once entries → ⊥) × (self.new.entries ≡ self.old.entries)) }
     {
         if !each_once(&entries) {
             return Err(KeeperFault::Unfit);
