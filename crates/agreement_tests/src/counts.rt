@@ -30,11 +30,7 @@ fn relay() -> Result<(), Fail> {
     gives(&mut log, &record, StepRule, chained)?;
     let cut = Expected {
         partners: &[None, None, None, None, None, Some(0)],
-        end: End::Racy {
-            racing: 1,
-            partner: 0,
-            operation: 5,
-        },
+        end: End::Racy(1, (0, 5)),
         before: &[(0, 3), (1, 2), (4, 5)],
         not_before: &[(3, 4), (0, 5), (5, 0)],
     };
@@ -59,11 +55,7 @@ fn hidden_release() -> Result<(), Fail> {
     let mut log = record;
     let expected = Expected {
         partners: &[None, None, None, None, Some(0), None],
-        end: End::Racy {
-            racing: 1,
-            partner: 0,
-            operation: 4,
-        },
+        end: End::Racy(1, (0, 4)),
         before: &[(3, 4), (1, 5), (0, 5)],
         not_before: &[(1, 3), (2, 3), (0, 4), (2, 5)],
     };
@@ -89,11 +81,7 @@ fn crowd() -> Result<(), Fail> {
     let mut log = record;
     let expected = Expected {
         partners: &[None, Some(0), Some(1), Some(2), Some(3), Some(2)],
-        end: End::Racy {
-            racing: 5,
-            partner: 0,
-            operation: 1,
-        },
+        end: End::Racy(5, (0, 1)),
         before: &[(0, 3), (4, 5)],
         not_before: &[(0, 1), (1, 2), (2, 3), (3, 4), (0, 5)],
     };
@@ -121,22 +109,14 @@ fn fork() -> Result<(), Fail> {
     let mut log = record;
     let paired = Expected {
         partners: &[None, None, None, None, None, Some(4)],
-        end: End::Racy {
-            racing: 1,
-            partner: 4,
-            operation: 5,
-        },
+        end: End::Racy(1, (4, 5)),
         before: &[(0, 4), (0, 5), (1, 2), (1, 3)],
         not_before: &[(2, 3), (4, 5), (2, 4)],
     };
     gives(&mut log, &record, StepRule, paired)?;
     let unpaired = Expected {
         partners: &[None, None, None, None, Some(0), Some(4)],
-        end: End::Racy {
-            racing: 2,
-            partner: 0,
-            operation: 4,
-        },
+        end: End::Racy(2, (0, 4)),
         before: &[(0, 1), (3, 4), (2, 5)],
         not_before: &[(1, 2), (1, 3), (0, 4), (0, 5)],
     };

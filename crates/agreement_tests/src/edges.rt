@@ -3,6 +3,10 @@ use operations::{Kind, MatrixRule, StepRule};
 use std::test::Fail;
 use words::Edge;
 
+fn edge(target: u32, cost: i32) -> Edge {
+    Edge { target, cost }
+}
+
 // One release of class 6, acquired with class 7 and with class 1; both acquirers then read what was written before.
 //
 // The step rule pairs 6 with 7 only: 0-1-2-3 is a chain, and 4-5 stands alone, so read 5 races with write 0.
@@ -14,14 +18,8 @@ use words::Edge;
 // do not conflict with each other.
 #[test]
 fn two_acquirers() -> Result<(), Fail> {
-    let written = Edge {
-        target: 7,
-        cost: -3,
-    };
-    let flag = Edge {
-        target: 1,
-        cost: -1,
-    };
+    let written = edge(7, -3);
+    let flag = edge(1, -1);
     let record = [
         operation(3, Kind::DataWrite, 0, 5, written),
         operation(3, Kind::Release, 6, 6, flag),
@@ -33,22 +31,14 @@ fn two_acquirers() -> Result<(), Fail> {
     let mut log = record;
     let by_step = Expected {
         partners: &[None, None, None, None, None, Some(0)],
-        end: End::Racy {
-            racing: 1,
-            partner: 0,
-            operation: 5,
-        },
+        end: End::Racy(1, (0, 5)),
         before: &[(0, 3), (1, 2), (4, 5)],
         not_before: &[(1, 4), (0, 5), (3, 5)],
     };
     gives(&mut log, &record, StepRule, by_step)?;
     let by_matrix = Expected {
         partners: &[None, None, None, Some(0), None, None],
-        end: End::Racy {
-            racing: 1,
-            partner: 0,
-            operation: 3,
-        },
+        end: End::Racy(1, (0, 3)),
         before: &[(1, 4), (0, 5), (2, 3)],
         not_before: &[(0, 3), (1, 2), (2, 5)],
     };
@@ -56,11 +46,7 @@ fn two_acquirers() -> Result<(), Fail> {
     gives(&mut log, &record, MatrixRule::new(&rows), by_matrix)?;
     let by_none = Expected {
         partners: &[None, None, None, Some(0), None, Some(0)],
-        end: End::Racy {
-            racing: 2,
-            partner: 0,
-            operation: 3,
-        },
+        end: End::Racy(2, (0, 3)),
         before: &[(0, 1), (2, 3), (4, 5)],
         not_before: &[(1, 2), (1, 4), (0, 5)],
     };
@@ -76,11 +62,8 @@ fn two_acquirers() -> Result<(), Fail> {
 // step rule pairs no odd class with anything.
 #[test]
 fn synchronization_only() -> Result<(), Fail> {
-    let word = Edge {
-        target: 3,
-        cost: -8,
-    };
-    let other = Edge { target: 3, cost: 8 };
+    let word = edge(3, -8);
+    let other = edge(3, 8);
     let record = [
         operation(4, Kind::Release, 15, 7, word),
         operation(5, Kind::SyncWrite, 15, 7, other),
@@ -116,15 +99,9 @@ fn synchronization_only() -> Result<(), Fail> {
 // source.
 #[test]
 fn after_the_release() -> Result<(), Fail> {
-    let initial = Edge { target: 0, cost: 0 };
-    let flag = Edge {
-        target: u32::MAX,
-        cost: i32::MIN,
-    };
-    let written = Edge {
-        target: 2,
-        cost: -5,
-    };
+    let initial = edge(0, 0);
+    let flag = edge(u32::MAX, i32::MIN);
+    let written = edge(2, -5);
     let record = [
         operation(1, Kind::DataRead, 0, 0, initial),
         operation(2, Kind::Release, 0, 1, flag),
@@ -136,11 +113,7 @@ fn after_the_release() -> Result<(), Fail> {
     let mut log = record;
     let expected = Expected {
         partners: &[None, None, None, Some(0), Some(3), None],
-        end: End::Racy {
-            racing: 2,
-            partner: 0,
-            operation: 3,
-        },
+        end: End::Racy(2, (0, 3)),
         before: &[(1, 4), (0, 4), (1, 5)],
         not_before: &[(3, 4), (4, 3), (2, 3), (0, 3)],
     };

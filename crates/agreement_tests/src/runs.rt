@@ -16,23 +16,18 @@ const LONGEST: u16 = 6;
 #[derive(Clone, Copy, PartialEq, Eq, Debug)]
 pub(crate) enum End {
     RaceFree,
-    // how many operations have a partner, and the first of them with its partner
-    Racy {
-        racing: u16,
-        partner: u16,
-        operation: u16,
-    },
+    // how many operations have a partner, and the first of these pairs: the partner, and the operation
+    Racy(u16, (u16, u16)),
 }
 
 impl From<&Verdict> for End {
     fn from(verdict: &Verdict) -> End {
         match verdict {
             Verdict::RaceFree(_) => End::RaceFree,
-            Verdict::Racy(racy) => End::Racy {
-                racing: racy.racing(),
-                partner: racy.first().partner,
-                operation: racy.first().operation,
-            },
+            Verdict::Racy(racy) => {
+                let first = racy.first();
+                End::Racy(racy.racing(), (first.partner, first.operation))
+            }
         }
     }
 }
