@@ -1,17 +1,7 @@
-use crate::runs::{End, Expected, matrix_gives, no, step_gives, yes};
-use operations::{Kind, Operation};
+use crate::runs::{End, Expected, gives, operation};
+use operations::{Kind, MatrixRule, StepRule};
 use std::test::Fail;
 use words::Count;
-
-fn count(processor: u8, kind: Kind, class: u8, location: u16, number: u32) -> Operation<Count> {
-    Operation {
-        processor,
-        kind,
-        class,
-        location,
-        word: Count { number },
-    }
-}
 
 // A chain over three processors and two locations.
 //
@@ -23,44 +13,28 @@ fn count(processor: u8, kind: Kind, class: u8, location: u16, number: u32) -> Op
 #[test]
 fn relay() -> Result<(), Fail> {
     let record = [
-        count(0, Kind::DataWrite, 0, 1, 41),
-        count(0, Kind::Release, 2, 8, 1),
-        count(1, Kind::Acquire, 3, 8, 1),
-        count(1, Kind::Release, 4, 9, 2),
-        count(2, Kind::Acquire, 5, 9, 2),
-        count(2, Kind::DataRead, 0, 1, 41),
+        operation(0, Kind::DataWrite, 0, 1, Count { number: 41 }),
+        operation(0, Kind::Release, 2, 8, Count { number: 1 }),
+        operation(1, Kind::Acquire, 3, 8, Count { number: 1 }),
+        operation(1, Kind::Release, 4, 9, Count { number: 2 }),
+        operation(2, Kind::Acquire, 5, 9, Count { number: 2 }),
+        operation(2, Kind::DataRead, 0, 1, Count { number: 41 }),
     ];
     let mut log = record;
     let chained = Expected {
         partners: &[None, None, None, None, None, None],
         end: End::RaceFree,
-        orders: &[
-            yes(0, 5),
-            yes(1, 4),
-            yes(2, 5),
-            no(5, 0),
-            no(4, 3),
-            no(3, 3),
-        ],
+        before: &[(0, 5), (1, 4), (2, 5)],
+        not_before: &[(5, 0), (4, 3), (3, 3)],
     };
-    step_gives(&mut log, &record, chained)?;
+    gives(&mut log, &record, StepRule, chained)?;
     let cut = Expected {
         partners: &[None, None, None, None, None, Some(0)],
-        end: End::Racy {
-            racing: 1,
-            partner: 0,
-            operation: 5,
-        },
-        orders: &[
-            yes(0, 3),
-            yes(1, 2),
-            no(3, 4),
-            no(0, 5),
-            no(5, 0),
-            yes(4, 5),
-        ],
+        end: End::Racy(1, (0, 5)),
+        before: &[(0, 3), (1, 2), (4, 5)],
+        not_before: &[(3, 4), (0, 5), (5, 0)],
     };
-    matrix_gives(&[0, 0, 8], &mut log, &record, cut)
+    gives(&mut log, &record, MatrixRule::new(&[0, 0, 8]), cut)
 }
 
 // A release that a synchronization write hides, though it writes the same word.
@@ -71,33 +45,22 @@ fn relay() -> Result<(), Fail> {
 #[test]
 fn hidden_release() -> Result<(), Fail> {
     let record = [
-        count(0, Kind::DataWrite, 0, 2, 9),
-        count(0, Kind::Release, 10, 3, 5),
-        count(1, Kind::SyncWrite, 10, 3, 5),
-        count(2, Kind::Acquire, 11, 3, 5),
-        count(2, Kind::DataRead, 0, 2, 9),
-        count(0, Kind::SyncRead, 11, 3, 5),
+        operation(0, Kind::DataWrite, 0, 2, Count { number: 9 }),
+        operation(0, Kind::Release, 10, 3, Count { number: 5 }),
+        operation(1, Kind::SyncWrite, 10, 3, Count { number: 5 }),
+        operation(2, Kind::Acquire, 11, 3, Count { number: 5 }),
+        operation(2, Kind::DataRead, 0, 2, Count { number: 9 }),
+        operation(0, Kind::SyncRead, 11, 3, Count { number: 5 }),
     ];
     let mut log = record;
     let expected = Expected {
         partners: &[None, None, None, None, Some(0), None],
-        end: End::Racy {
-            racing: 1,
-            partner: 0,
-            operation: 4,
-        },
-        orders: &[
-            no(1, 3),
-            no(2, 3),
-            no(0, 4),
-            yes(3, 4),
-            yes(1, 5),
-            yes(0, 5),
-            no(2, 5),
-        ],
+        end: End::Racy(1, (0, 4)),
+        before: &[(3, 4), (1, 5), (0, 5)],
+        not_before: &[(1, 3), (2, 3), (0, 4), (2, 5)],
     };
-    step_gives(&mut log, &record, expected)?;
-    matrix_gives(&[0xffff; 16], &mut log, &record, expected)
+    gives(&mut log, &record, StepRule, expected)?;
+    gives(&mut log, &record, MatrixRule::new(&[0xffff; 16]), expected)
 }
 
 // Many operations that race, all at one location and with no release: only 0-3 and 4-5 are arrows.
@@ -108,33 +71,22 @@ fn hidden_release() -> Result<(), Fail> {
 #[test]
 fn crowd() -> Result<(), Fail> {
     let record = [
-        count(0, Kind::DataWrite, 0, 4, 1),
-        count(1, Kind::DataRead, 1, 4, 1),
-        count(2, Kind::DataWrite, 2, 4, 2),
-        count(0, Kind::DataRead, 3, 4, 2),
-        count(3, Kind::SyncWrite, 4, 4, 3),
-        count(3, Kind::SyncRead, 5, 4, 3),
+        operation(0, Kind::DataWrite, 0, 4, Count { number: 1 }),
+        operation(1, Kind::DataRead, 1, 4, Count { number: 1 }),
+        operation(2, Kind::DataWrite, 2, 4, Count { number: 2 }),
+        operation(0, Kind::DataRead, 3, 4, Count { number: 2 }),
+        operation(3, Kind::SyncWrite, 4, 4, Count { number: 3 }),
+        operation(3, Kind::SyncRead, 5, 4, Count { number: 3 }),
     ];
     let mut log = record;
     let expected = Expected {
         partners: &[None, Some(0), Some(1), Some(2), Some(3), Some(2)],
-        end: End::Racy {
-            racing: 5,
-            partner: 0,
-            operation: 1,
-        },
-        orders: &[
-            yes(0, 3),
-            yes(4, 5),
-            no(0, 1),
-            no(1, 2),
-            no(2, 3),
-            no(3, 4),
-            no(0, 5),
-        ],
+        end: End::Racy(5, (0, 1)),
+        before: &[(0, 3), (4, 5)],
+        not_before: &[(0, 1), (1, 2), (2, 3), (3, 4), (0, 5)],
     };
-    step_gives(&mut log, &record, expected)?;
-    matrix_gives(&[0xffff; 16], &mut log, &record, expected)
+    gives(&mut log, &record, StepRule, expected)?;
+    gives(&mut log, &record, MatrixRule::new(&[0xffff; 16]), expected)
 }
 
 // One release that two processors acquire.
@@ -147,52 +99,28 @@ fn crowd() -> Result<(), Fail> {
 #[test]
 fn fork() -> Result<(), Fail> {
     let record = [
-        count(8, Kind::DataWrite, 0, 11, 100),
-        count(8, Kind::Release, 12, 20, 1),
-        count(9, Kind::Acquire, 13, 20, 1),
-        count(10, Kind::Acquire, 13, 20, 1),
-        count(10, Kind::DataWrite, 0, 11, 101),
-        count(9, Kind::DataRead, 0, 11, 101),
+        operation(8, Kind::DataWrite, 0, 11, Count { number: 100 }),
+        operation(8, Kind::Release, 12, 20, Count { number: 1 }),
+        operation(9, Kind::Acquire, 13, 20, Count { number: 1 }),
+        operation(10, Kind::Acquire, 13, 20, Count { number: 1 }),
+        operation(10, Kind::DataWrite, 0, 11, Count { number: 101 }),
+        operation(9, Kind::DataRead, 0, 11, Count { number: 101 }),
     ];
     let mut log = record;
     let paired = Expected {
         partners: &[None, None, None, None, None, Some(4)],
-        end: End::Racy {
-            racing: 1,
-            partner: 4,
-            operation: 5,
-        },
-        orders: &[
-            yes(0, 4),
-            yes(0, 5),
-            yes(1, 2),
-            yes(1, 3),
-            no(2, 3),
-            no(4, 5),
-            no(2, 4),
-        ],
+        end: End::Racy(1, (4, 5)),
+        before: &[(0, 4), (0, 5), (1, 2), (1, 3)],
+        not_before: &[(2, 3), (4, 5), (2, 4)],
     };
-    step_gives(&mut log, &record, paired)?;
+    gives(&mut log, &record, StepRule, paired)?;
     let unpaired = Expected {
         partners: &[None, None, None, None, Some(0), Some(4)],
-        end: End::Racy {
-            racing: 2,
-            partner: 0,
-            operation: 4,
-        },
-        orders: &[
-            yes(0, 1),
-            yes(3, 4),
-            yes(2, 5),
-            no(1, 2),
-            no(1, 3),
-            no(0, 4),
-            no(0, 5),
-        ],
+        end: End::Racy(2, (0, 4)),
+        before: &[(0, 1), (3, 4), (2, 5)],
+        not_before: &[(1, 2), (1, 3), (0, 4), (0, 5)],
     };
-    let rows = [
-        0xffff, 0xffff, 0xffff, 0xffff, 0xffff, 0xffff, 0xffff, 0xffff, 0xffff, 0xffff, 0xffff,
-        0xffff, 0xdfff,
-    ];
-    matrix_gives(&rows, &mut log, &record, unpaired)
+    let mut rows = [0xffff; 13];
+    rows[12] = 0xdfff;
+    gives(&mut log, &record, MatrixRule::new(&rows), unpaired)
 }

@@ -1,16 +1,10 @@
-use crate::runs::{End, Expected, matrix_gives, no, step_gives, yes};
-use operations::{Kind, Operation};
+use crate::runs::{End, Expected, gives, operation};
+use operations::{Kind, MatrixRule, StepRule};
 use std::test::Fail;
 use words::Edge;
 
-fn edge(processor: u8, kind: Kind, class: u8, location: u16, word: Edge) -> Operation<Edge> {
-    Operation {
-        processor,
-        kind,
-        class,
-        location,
-        word,
-    }
+fn edge(target: u32, cost: i32) -> Edge {
+    Edge { target, cost }
 }
 
 // One release of class 6, acquired with class 7 and with class 1; both acquirers then read what was written before.
@@ -24,75 +18,41 @@ fn edge(processor: u8, kind: Kind, class: u8, location: u16, word: Edge) -> Oper
 // do not conflict with each other.
 #[test]
 fn two_acquirers() -> Result<(), Fail> {
-    let written = Edge {
-        target: 7,
-        cost: -3,
-    };
-    let flag = Edge {
-        target: 1,
-        cost: -1,
-    };
+    let written = edge(7, -3);
+    let flag = edge(1, -1);
     let record = [
-        edge(3, Kind::DataWrite, 0, 5, written),
-        edge(3, Kind::Release, 6, 6, flag),
-        edge(0, Kind::Acquire, 7, 6, flag),
-        edge(0, Kind::DataRead, 0, 5, written),
-        edge(1, Kind::Acquire, 1, 6, flag),
-        edge(1, Kind::DataRead, 0, 5, written),
+        operation(3, Kind::DataWrite, 0, 5, written),
+        operation(3, Kind::Release, 6, 6, flag),
+        operation(0, Kind::Acquire, 7, 6, flag),
+        operation(0, Kind::DataRead, 0, 5, written),
+        operation(1, Kind::Acquire, 1, 6, flag),
+        operation(1, Kind::DataRead, 0, 5, written),
     ];
     let mut log = record;
     let by_step = Expected {
         partners: &[None, None, None, None, None, Some(0)],
-        end: End::Racy {
-            racing: 1,
-            partner: 0,
-            operation: 5,
-        },
-        orders: &[
-            yes(0, 3),
-            yes(1, 2),
-            no(1, 4),
-            no(0, 5),
-            yes(4, 5),
-            no(3, 5),
-        ],
+        end: End::Racy(1, (0, 5)),
+        before: &[(0, 3), (1, 2), (4, 5)],
+        not_before: &[(1, 4), (0, 5), (3, 5)],
     };
-    step_gives(&mut log, &record, by_step)?;
+    gives(&mut log, &record, StepRule, by_step)?;
     let by_matrix = Expected {
         partners: &[None, None, None, Some(0), None, None],
-        end: End::Racy {
-            racing: 1,
-            partner: 0,
-            operation: 3,
-        },
-        orders: &[
-            no(0, 3),
-            no(1, 2),
-            yes(1, 4),
-            yes(0, 5),
-            yes(2, 3),
-            no(2, 5),
-        ],
+        end: End::Racy(1, (0, 3)),
+        before: &[(1, 4), (0, 5), (2, 3)],
+        not_before: &[(0, 3), (1, 2), (2, 5)],
     };
-    matrix_gives(&[0, 0, 0, 0, 0, 0, 0xff7f], &mut log, &record, by_matrix)?;
+    let rows = [0, 0, 0, 0, 0, 0, 0xff7f];
+    gives(&mut log, &record, MatrixRule::new(&rows), by_matrix)?;
     let by_none = Expected {
         partners: &[None, None, None, Some(0), None, Some(0)],
-        end: End::Racy {
-            racing: 2,
-            partner: 0,
-            operation: 3,
-        },
-        orders: &[
-            yes(0, 1),
-            no(1, 2),
-            no(1, 4),
-            no(0, 5),
-            yes(2, 3),
-            yes(4, 5),
-        ],
+        end: End::Racy(2, (0, 3)),
+        before: &[(0, 1), (2, 3), (4, 5)],
+        not_before: &[(1, 2), (1, 4), (0, 5)],
     };
-    let rows = [0, 0, 0, 0, 0, 0, 0, 0, 0, 0, 0, 0, 0, 0, 0, 0, 0xffff];
-    matrix_gives(&rows, &mut log, &record, by_none)
+    let mut rows = [0; 17];
+    rows[16] = 0xffff;
+    gives(&mut log, &record, MatrixRule::new(&rows), by_none)
 }
 
 // Synchronization operations only, all at one location: never a race.
@@ -102,40 +62,33 @@ fn two_acquirers() -> Result<(), Fail> {
 // step rule pairs no odd class with anything.
 #[test]
 fn synchronization_only() -> Result<(), Fail> {
-    let word = Edge {
-        target: 3,
-        cost: -8,
-    };
-    let other = Edge { target: 3, cost: 8 };
+    let word = edge(3, -8);
+    let other = edge(3, 8);
     let record = [
-        edge(4, Kind::Release, 15, 7, word),
-        edge(5, Kind::SyncWrite, 15, 7, other),
-        edge(6, Kind::Release, 15, 7, word),
-        edge(4, Kind::SyncRead, 15, 7, word),
-        edge(5, Kind::Acquire, 15, 7, word),
-        edge(15, Kind::Acquire, 14, 7, word),
+        operation(4, Kind::Release, 15, 7, word),
+        operation(5, Kind::SyncWrite, 15, 7, other),
+        operation(6, Kind::Release, 15, 7, word),
+        operation(4, Kind::SyncRead, 15, 7, word),
+        operation(5, Kind::Acquire, 15, 7, word),
+        operation(15, Kind::Acquire, 14, 7, word),
     ];
     let mut log = record;
     let paired = Expected {
         partners: &[None, None, None, None, None, None],
         end: End::RaceFree,
-        orders: &[
-            yes(0, 3),
-            yes(1, 4),
-            yes(2, 4),
-            no(0, 4),
-            no(2, 5),
-            no(2, 3),
-        ],
+        before: &[(0, 3), (1, 4), (2, 4)],
+        not_before: &[(0, 4), (2, 5), (2, 3)],
     };
-    let rows = [0, 0, 0, 0, 0, 0, 0, 0, 0, 0, 0, 0, 0, 0, 0, 0x8000];
-    matrix_gives(&rows, &mut log, &record, paired)?;
+    let mut rows = [0; 16];
+    rows[15] = 0x8000;
+    gives(&mut log, &record, MatrixRule::new(&rows), paired)?;
     let unpaired = Expected {
         partners: &[None, None, None, None, None, None],
         end: End::RaceFree,
-        orders: &[yes(0, 3), yes(1, 4), no(2, 4), no(0, 4), no(2, 5), no(2, 3)],
+        before: &[(0, 3), (1, 4)],
+        not_before: &[(2, 4), (0, 4), (2, 5), (2, 3)],
     };
-    step_gives(&mut log, &record, unpaired)
+    gives(&mut log, &record, StepRule, unpaired)
 }
 
 // A release orders what comes before it, and not what its processor does after it.
@@ -146,41 +99,24 @@ fn synchronization_only() -> Result<(), Fail> {
 // source.
 #[test]
 fn after_the_release() -> Result<(), Fail> {
-    let initial = Edge { target: 0, cost: 0 };
-    let flag = Edge {
-        target: u32::MAX,
-        cost: i32::MIN,
-    };
-    let written = Edge {
-        target: 2,
-        cost: -5,
-    };
+    let initial = edge(0, 0);
+    let flag = edge(u32::MAX, i32::MIN);
+    let written = edge(2, -5);
     let record = [
-        edge(1, Kind::DataRead, 0, 0, initial),
-        edge(2, Kind::Release, 0, 1, flag),
-        edge(1, Kind::Acquire, 1, 1, flag),
-        edge(2, Kind::DataWrite, 0, 0, written),
-        edge(1, Kind::DataWrite, 0, 0, written),
-        edge(2, Kind::DataRead, 15, 65535, initial),
+        operation(1, Kind::DataRead, 0, 0, initial),
+        operation(2, Kind::Release, 0, 1, flag),
+        operation(1, Kind::Acquire, 1, 1, flag),
+        operation(2, Kind::DataWrite, 0, 0, written),
+        operation(1, Kind::DataWrite, 0, 0, written),
+        operation(2, Kind::DataRead, 15, 65535, initial),
     ];
     let mut log = record;
     let expected = Expected {
         partners: &[None, None, None, Some(0), Some(3), None],
-        end: End::Racy {
-            racing: 2,
-            partner: 0,
-            operation: 3,
-        },
-        orders: &[
-            yes(1, 4),
-            yes(0, 4),
-            yes(1, 5),
-            no(3, 4),
-            no(4, 3),
-            no(2, 3),
-            no(0, 3),
-        ],
+        end: End::Racy(2, (0, 3)),
+        before: &[(1, 4), (0, 4), (1, 5)],
+        not_before: &[(3, 4), (4, 3), (2, 3), (0, 3)],
     };
-    step_gives(&mut log, &record, expected)?;
-    matrix_gives(&[2], &mut log, &record, expected)
+    gives(&mut log, &record, StepRule, expected)?;
+    gives(&mut log, &record, MatrixRule::new(&[2]), expected)
 }

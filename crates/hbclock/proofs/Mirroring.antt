@@ -16,4 +16,5 @@ once_each (suc n) xs e q h =
     ⊎_elim (λ (l : q < n). once_each n xs p.1 q l) (λ (l : n ≤ q). subst (λ k. times k xs ≡ 1) (let same : n ≡ q = omega arith in same) (eqb-true (times n xs) 1 p.0)) (cases_lt q n)
 
 pub mirrored_once : Once mirrored
+unfolding times
 mirrored_once = once_each 16 mirrored refl

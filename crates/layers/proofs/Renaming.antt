@@ -1,14 +1,12 @@
 -- What a renumber layer does to a keeper's meaning. Assumes nothing.
-use Rattle.std.proofs.Common.{◌≡◌, ℕ, ◌-◌, ◌<◌, ◌≤◌, true, false, cond, ◌&&◌, ◌||◌, eqb, ltb, List, [], ◌∷◌, ◌++◌, map, length, get_or, Some, None, Ok, Err, Option, Result, sym, refl, ap, ◌∙◌, ⊎_elim, arith}
+use Rattle.std.proofs.Common.{◌≡◌, ℕ, ◌-◌, ◌<◌, eqb, ltb, List, [], ◌∷◌, ◌++◌, map, length, get_or, Some, None, Ok, Err, Option, Result, sym, refl, ap, ◌∙◌, arith}
 use mathlib.Core.Path.{fun_ext}
 use lib.ListN.{length-map}
 use Rattle.std.proofs.lemmas.List.{map_push, get_or-map}
-use Rattle.std.proofs.lemmas.Bool.{lt-ltb, le-ltb, cases_lt}
+use Rattle.std.proofs.lemmas.Bool.Decides.{nat_tests}
 use Rattle.keepers.specs.Meaning.{Meaning, held, most_processors}
 use Rattle.keepers.specs.Adding.{latest_of, latest, reaches, added, addition, answered, after_addition, giver_held}
-use Rattle.keepers.specs.Asking.{order}
 use Rattle.keepers.specs.declared.fault.KeeperFault.{KeeperFault}
-use Rattle.keepers.specs.declared.fault.KeeperFault.TheVariants.{NotHeld}
 use Rattle.layers.specs.Renumbering.{Once, place, entry_of}
 use Rattle.layers.specs.Layers.{renumbered}
 use Rattle.layers.proofs.Placing.{place_entry, same_test}
@@ -18,11 +16,8 @@ module _ (xs : List ℕ) (m : Meaning) where
   abbrev R : Meaning
   R = renumbered xs m
 
-  pub held_same : held R ≡ held m
+  held_same : held R ≡ held m
   held_same = length-map m.processors (place xs)
-
-  pub order_same : (a b : ℕ) → order R a b ≡ order m a b
-  order_same a b = ap (λ n. cond (ltb a n && ltb b n) (Ok (m.before a b)) (Err NotHeld)) held_same
 
   giver_same : (o : Option ℕ) → giver_held R o ≡ giver_held m o
   giver_same None = refl
@@ -33,12 +28,8 @@ module _ (xs : List ℕ) (m : Meaning) where
   reaches_same a (Some k) = refl
 
   module _ (l : length xs ≡ 16) (o : Once xs) (p : ℕ) (h : p < 16) where
-    pub addition_same : (g : Option ℕ) → addition R p g ≡ addition m (get_or xs p 0) g
-    addition_same g =
-        let t : ltb p 16 ≡ true = lt-ltb p 16 h in
-        let u : giver_held R g ≡ giver_held m g = giver_same g in
-        let v : held R ≡ held m = held_same in
-        simp (t, u, v)
+    addition_same : (g : Option ℕ) → addition R p g ≡ addition m (get_or xs p 0) g
+    addition_same g = let given = giver_same g in let count = held_same in grind (arith, nat_tests)
 
     latest_same : latest R p ≡ latest m (get_or xs p 0)
     latest_same =
@@ -47,15 +38,15 @@ module _ (xs : List ℕ) (m : Meaning) where
 
     before_same : (g : Option ℕ) → (added R p g).before ≡ (added m (get_or xs p 0) g).before
     before_same g = fun_ext (λ a. fun_ext (λ b.
-        ap (λ n. ltb a n && cond (eqb b n) (reaches R a g || reaches R a (latest R p)) (m.before a b)) held_same
-        ∙ ap (λ z. ltb a (held m) && cond (eqb b (held m)) (z || reaches R a (latest R p)) (m.before a b)) (reaches_same a g)
-        ∙ ap (λ z. ltb a (held m) && cond (eqb b (held m)) (reaches m a g || reaches R a z) (m.before a b)) latest_same
-        ∙ ap (λ z. ltb a (held m) && cond (eqb b (held m)) (reaches m a g || z) (m.before a b)) (reaches_same a (latest m (get_or xs p 0)))))
+        let count = held_same in
+        let its : Option ℕ = latest m (get_or xs p 0) in
+        let same : reaches R a (latest R p) ≡ reaches m a its = ap (reaches R a) latest_same ∙ reaches_same a its in
+        grind (arith, nat_tests, reaches_same a g)))
 
     processors_same : (g : Option ℕ) → (added R p g).processors ≡ map (place xs) (added m (get_or xs p 0) g).processors
     processors_same g = ap (λ q. map (place xs) m.processors ++ (q ∷ [])) (sym (place_entry xs l o p h)) ∙ sym (map_push (place xs) m.processors (get_or xs p 0))
 
-    pub added_same : (g : Option ℕ) → added R p g ≡ renumbered xs (added m (get_or xs p 0) g)
+    added_same : (g : Option ℕ) → added R p g ≡ renumbered xs (added m (get_or xs p 0) g)
     added_same g = λ i. record { admits = R.admits; processors = processors_same g i; before = before_same g i; room = m.room - 1 }
 
     answered_same : (g : Option ℕ) (r : Result ℕ KeeperFault) → renumbered xs (answered m (get_or xs p 0) g r) ≡ answered R p g r
@@ -67,8 +58,4 @@ module _ (xs : List ℕ) (m : Meaning) where
 
 -- an entry that is there
 pub entry_is : (xs : List ℕ) (p q : ℕ) → Some q ≡ entry_of xs p → (p < most_processors) × (q ≡ get_or xs p 0)
-entry_is xs p q e =
-    ⊎_elim
-    (λ (l : p < most_processors). (l, (let t : ltb p most_processors ≡ true = lt-ltb p most_processors l in cc)))
-    (λ (l : most_processors ≤ p). let t : ltb p most_processors ≡ false = le-ltb p most_processors l in let z : ◌≡◌ {A = ℕ} 0 1 = cc in absurd (omega arith))
-    (cases_lt p most_processors)
+entry_is xs p q e = grind (arith, nat_tests)

@@ -1,11 +1,11 @@
 -- Lists in which each processor number stands once. Assumes nothing.
-use Rattle.std.specs.Prelude.{◌≡◌, ℕ, suc, ◌+◌, ◌<◌, cond, List, [], ◌∷◌, Some, None, Option, ◌==◌, nat_lt, slice_index}
+use Rattle.std.specs.Prelude.{◌≡◌, ℕ, ◌<◌, cond, List, Some, None, Option, ◌==◌, nat_lt, slice_index}
+use Rattle.std.specs.List.{count_by, position_or_len}
 use Rattle.keepers.specs.Meaning.{most_processors}
 
 -- how often q stands in a list
-abbrev pub times : ℕ → List ℕ → ℕ
-times q [] = 0
-times q (x ∷ xs) = cond (x == q) 1 0 + times q xs
+unfoldable pub times : ℕ → List ℕ → ℕ
+times q = count_by (λ x. x == q)
 
 -- each processor number stands once
 abbrev pub Once : List ℕ → Type 0
@@ -13,8 +13,7 @@ Once xs = (q : ℕ) → q < most_processors → times q xs ≡ 1
 
 -- the first place at which q stands, or the length
 abbrev pub place : List ℕ → ℕ → ℕ
-place [] q = 0
-place (x ∷ xs) q = cond (x == q) 0 (suc (place xs q))
+place xs q = position_or_len (λ x. x == q) xs
 
 -- entry p of a list
 abbrev pub entry_of : List ℕ → ℕ → Option ℕ

@@ -34,12 +34,7 @@ impl<K: Keeper> Keeper for Allowance<K> {
     }
 
     fn room(&self) -> u16 {
-        let below = self.below.room();
-        if self.left < below as usize {
-            self.left as u16
-        } else {
-            below
-        }
+        self.left.min(self.below.room() as usize) as u16
     }
 
     fn add(&mut self, processor: u8, giver: Option<u16>) -> Result<u16, KeeperFault> {

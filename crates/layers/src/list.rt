@@ -1,4 +1,4 @@
-ghost use Rattle.std.specs.Prelude.{◌≡◌, ℕ, ◌<◌, ◌≤◌, length, MatchResult};
+ghost use Rattle.std.specs.Prelude.{◌≡◌, ℕ, ◌<◌, ◌≤◌, length, MatchResult, IsTrue, ◌↔◌};
 ghost use Rattle.std.specs.List.{range_with_len};
 ghost use Rattle.layers.specs.Renumbering.{times, Once, entry_of};
 
@@ -15,6 +15,7 @@ pub struct RenumberList {
 
 impl RenumberList {
     // 0 to 15 in order.
+    #[tactic(auto, unfolding(crate::specs::Renumbering::times))]
     pub fn new() -> RenumberList
         ensures { result.entries ≡ range_with_len 0 16 }
     {
@@ -25,12 +26,11 @@ impl RenumberList {
 
     // Sets the whole list, or refuses and leaves it as it was.
     pub fn set(&mut self, entries: [u8; 16]) -> Result<(), KeeperFault>
-        ensures { MatchResult result (λ _. self.new.entries ≡ entries) (λ f. (f ≡ KeeperFault.Unfit) × (Once entries → ⊥) × (self.new.entries ≡ self.old.entries)) }
+        ensures { MatchResult result (λ _. self.new.entries ≡ entries)
+            (λ f. (f ≡ KeeperFault.Unfit) × (Once entries → ⊥) × (self.new.entries ≡ self.old.entries)) }
     {
-        for p in 0..16 {
-            if occurrences(&entries, p) != 1 {
-                return Err(KeeperFault::Unfit);
-            }
+        if !each_once(&entries) {
+            return Err(KeeperFault::Unfit);
         }
         *self = RenumberList { entries };
         Ok(())
@@ -40,23 +40,21 @@ impl RenumberList {
     pub fn entry(&self, p: u8) -> Option<u8>
         ensures { result ≡ entry_of self.now.entries p }
     {
-        if p < 16 {
-            Some(self.entries[p as usize])
-        } else {
-            None
-        }
+        self.entries.get(p as usize).copied()
     }
 }
 
+// Does each of 0 to 15 stand once among the entries?
+fn each_once(entries: &[u8]) -> bool
+    ensures { IsTrue result ↔ Once entries.now }
+{
+    (0..16).all(|p| occurrences(entries, p) == 1)
+}
+
 // How often `p` stands among the entries.
+#[tactic(auto, unfolding(crate::specs::Renumbering::times))]
 fn occurrences(entries: &[u8], p: u8) -> usize
     ensures { result ≡ times p entries.now }
 {
-    let mut n = 0;
-    for x in entries {
-        if *x == p {
-            n += 1;
-        }
-    }
-    n
+    entries.iter().filter(|x| **x == p).count()
 }

@@ -27,10 +27,9 @@ impl<K: Keeper> Keeper for Renumber<K> {
     ghost numbered = { λ s. renumbered_numbered s.list.entries (K.Keeper.meaning s.below) };
 
     fn admits(&self, processor: u8) -> bool {
-        match self.list.entry(processor) {
-            Some(inner) => self.below.admits(inner),
-            None => false,
-        }
+        self.list
+            .entry(processor)
+            .is_some_and(|inner| self.below.admits(inner))
     }
 
     fn count(&self) -> u16 {
@@ -42,9 +41,7 @@ impl<K: Keeper> Keeper for Renumber<K> {
     }
 
     fn add(&mut self, processor: u8, giver: Option<u16>) -> Result<u16, KeeperFault> {
-        let Some(inner) = self.list.entry(processor) else {
-            return Err(KeeperFault::NotAdmitted);
-        };
+        let inner = self.list.entry(processor).ok_or(KeeperFault::NotAdmitted)?;
         self.below.add(inner, giver)
     }
 
