@@ -1,7 +1,7 @@
 use agreement::answer_alike;
 use arrow::ArrowKeeper;
 use clock::ClockKeeper;
-use examination::{Open, Verdict};
+use examination::{Examination, Open, Verdict};
 use keepers::{Keeper, KeeperFault, Processors};
 use layers::{Allowance, Renumber, RenumberList};
 use operations::{Kind, Operation, PairingRule};
@@ -47,22 +47,17 @@ impl Expected<'_> {
     fn compare<K: Keeper>(&self, verdict: Verdict, keeper: &mut K) -> Result<(), Fail> {
         check_eq(End::from(&verdict), self.end)?;
         match verdict {
-            Verdict::RaceFree(free) => {
-                for (a, b) in self.before {
-                    check(free.before(keeper, *a, *b)?)?;
-                }
-                for (a, b) in self.not_before {
-                    check(!free.before(keeper, *a, *b)?)?;
-                }
-            }
-            Verdict::Racy(racy) => {
-                for (a, b) in self.before {
-                    check(racy.before(keeper, *a, *b)?)?;
-                }
-                for (a, b) in self.not_before {
-                    check(!racy.before(keeper, *a, *b)?)?;
-                }
-            }
+            Verdict::RaceFree(free) => self.orders(&free, keeper),
+            Verdict::Racy(racy) => self.orders(&racy, keeper),
+        }
+    }
+
+    fn orders<E: Examination, K: Keeper>(&self, closed: &E, keeper: &mut K) -> Result<(), Fail> {
+        for (a, b) in self.before {
+            check(closed.before(keeper, *a, *b)?)?;
+        }
+        for (a, b) in self.not_before {
+            check(!closed.before(keeper, *a, *b)?)?;
         }
         Ok(())
     }
@@ -82,8 +77,8 @@ impl<W: Word, R: PairingRule> Run<'_, W, R> {
     // Examines the record over a keeper, and compares. The log is wiped first, so that nothing of an earlier
     // examination is left in it.
     fn examine<K: Keeper>(&mut self, keeper: &mut K) -> Result<(), Fail> {
-        let blank = Operation::blank();
         let log = &mut *self.log;
+        let blank = Operation::blank();
         log.fill_with(|| blank);
         check_eq(self.record.len(), self.expected.partners.len())?;
         let mut open = Open::new(keeper)?;

@@ -1,14 +1,16 @@
 use clock::ClockKeeper;
-use examination::Open;
-use keepers::{Adds, Keeper, Processors};
+use examination::{ExamFault, Examination, Open};
+use keepers::{Adds, Keeper, Processors, Refusal};
 use operations::{Kind, Operation, StepRule};
 use std::test::Fail;
-use test_checks::{check, check_eq};
+use test_checks::check_eq;
 use words::Count;
 
 // One admission into a newly opened examination, and what is wrong with it.
 #[derive(Clone, Copy)]
 struct Case {
+    // numbers lent to the keeper: three for each operation
+    numbers: usize,
     // places of the record
     places: usize,
     // operations added to the keeper behind the examination's back
@@ -19,125 +21,101 @@ struct Case {
     processor: u8,
 }
 
-const FIT: Case = Case {
-    places: 1,
-    added: 0,
-    class: 15,
-    word: 0,
-    processor: 1,
-};
-
-// Admits a case over a keeper, and compares the refusal; what was lent has to be as it was.
-fn over<K: Keeper + Drop>(mut keeper: K, case: Case, number: u8, adds: Adds) -> Result<(), Fail> {
-    let mut open = Open::new(&keeper)?;
-    let blank = Operation {
-        processor: 9,
-        kind: Kind::Release,
-        class: 99,
-        location: 1,
-        word: Count { number: 77 },
-    };
-    let mut record = [blank; 1];
-    for _ in 0..case.added {
-        keeper.add(0, None)?;
+impl Case {
+    fn read(self) -> Operation<Count> {
+        Operation {
+            processor: self.processor,
+            kind: Kind::DataRead,
+            class: self.class,
+            location: 1,
+            word: Count { number: self.word },
+        }
     }
-    let read = Operation {
-        processor: case.processor,
-        kind: Kind::DataRead,
-        class: case.class,
-        location: 1,
-        word: Count { number: case.word },
-    };
-    let before = keeper.count();
-    let places = case.places.min(1);
-    let Err(fault) = open.admit(&mut record[0..places], &mut keeper, &StepRule, read) else {
-        return Err(Fail::new("admitted"));
-    };
-    check_eq(fault.refusal().number, number)?;
-    check_eq(fault.refusal().adds, adds)?;
-    check_eq(open.admitted(), 0)?;
-    check_eq(keeper.count(), before)?;
-    check(record[0].kind == Kind::Release)?;
-    check_eq(record[0].word.number, 77)
-}
 
-// Two processors and room for two operations, or for none.
-fn refused(case: Case, number: u8, adds: Adds) -> Result<(), Fail> {
-    let mut numbers = [0u16; 6];
-    let keeper = ClockKeeper::new(Processors::new(2)?, &mut numbers);
-    over(keeper, case, number, adds)
-}
-
-fn refused_without_room(case: Case, number: u8) -> Result<(), Fail> {
-    let mut numbers = [0u16; 2];
-    let keeper = ClockKeeper::new(Processors::new(2)?, &mut numbers);
-    over(keeper, case, number, Adds::KeeperLayer)
+    // Admits the case over a clock keeper for two processors, and compares the refusal; what was lent has to be as it
+    // was.
+    fn refused(self, number: u8, adds: Adds) -> Result<(), Fail> {
+        let mut numbers = [0; 6];
+        let lent = self.numbers.min(6);
+        let mut keeper = ClockKeeper::new(Processors::new(2)?, &mut numbers[..lent]);
+        let mut open = Open::new(&keeper)?;
+        let old = Operation {
+            processor: 9,
+            kind: Kind::Release,
+            class: 99,
+            location: 1,
+            word: Count { number: 77 },
+        };
+        let mut record = [old; 1];
+        for _ in 0..self.added {
+            keeper.add(0, None)?;
+        }
+        let count = keeper.count();
+        let places = self.places.min(1);
+        let answer = open.admit(&mut record[..places], &mut keeper, &StepRule, self.read());
+        check_eq(
+            answer.err().map(Refusal::from),
+            Some(Refusal { number, adds }),
+        )?;
+        check_eq(open.admitted(), 0)?;
+        check_eq(keeper.count(), count)?;
+        check_eq(record, [old])
+    }
 }
 
 // Each case fails its own check and every later one, so the first one answers.
 #[test]
 fn first_refusals() -> Result<(), Fail> {
-    let bad = Case {
+    let no_place = Case {
+        numbers: 6,
         places: 0,
         added: 1,
         class: 16,
         word: 1,
         processor: 2,
     };
-    refused(bad, 7, Adds::ExaminationLayer)?;
-    refused(Case { places: 1, ..bad }, 6, Adds::ExaminationLayer)?;
-    refused(
-        Case {
-            places: 1,
-            added: 0,
-            ..bad
-        },
-        8,
-        Adds::ExaminationLayer,
-    )?;
-    refused(
-        Case {
-            class: 15,
-            word: 1,
-            processor: 2,
-            ..FIT
-        },
-        9,
-        Adds::ExaminationLayer,
-    )?;
-    refused_without_room(
-        Case {
-            processor: 2,
-            ..FIT
-        },
-        2,
-    )?;
-    refused_without_room(FIT, 4)
+    no_place.refused(7, Adds::ExaminationLayer)?;
+    let counts_differ = Case {
+        places: 1,
+        ..no_place
+    };
+    counts_differ.refused(6, Adds::ExaminationLayer)?;
+    let high_class = Case {
+        added: 0,
+        ..counts_differ
+    };
+    high_class.refused(8, Adds::ExaminationLayer)?;
+    let other_word = Case {
+        class: 15,
+        ..high_class
+    };
+    other_word.refused(9, Adds::ExaminationLayer)?;
+    let not_admitted = Case {
+        numbers: 2,
+        word: 0,
+        ..other_word
+    };
+    not_admitted.refused(2, Adds::KeeperLayer)?;
+    let no_room = Case {
+        processor: 1,
+        ..not_admitted
+    };
+    no_room.refused(4, Adds::KeeperLayer)
 }
 
-// Asks whether operation 0 is before itself, and compares the refusal's number.
-fn asked<K: Keeper>(open: &Open, keeper: &mut K, number: u8) -> Result<(), Fail> {
-    match open.before(keeper, 0, 0) {
-        Ok(_) => Err(Fail::new("answered")),
-        Err(fault) => check_eq(fault.refusal().number, number),
-    }
-}
-
-fn questions_over<K: Keeper + Drop>(mut keeper: K) -> Result<(), Fail> {
-    let open = Open::new(&keeper)?;
-    asked(&open, &mut keeper, 5)?;
-    keeper.add(0, None)?;
-    asked(&open, &mut keeper, 6)?;
-    match Open::new(&keeper) {
-        Ok(_again) => Err(Fail::new("opened")),
-        Err(fault) => check_eq(fault.refusal().number, 6),
-    }
+// The number of a refusal.
+fn number_of<T: Drop>(answer: Result<T, ExamFault>) -> Option<u8> {
+    answer.err().map(|fault| Refusal::from(fault).number)
 }
 
 // Order questions check the count first, then the numbers; opening wants an empty keeper.
 #[test]
 fn questions() -> Result<(), Fail> {
-    let mut numbers = [0u16; 6];
-    let keeper = ClockKeeper::new(Processors::new(2)?, &mut numbers);
-    questions_over(keeper)
+    let mut numbers = [0; 6];
+    let mut keeper = ClockKeeper::new(Processors::new(2)?, &mut numbers);
+    let open = Open::new(&keeper)?;
+    check_eq(number_of(open.before(&mut keeper, 0, 0)), Some(5))?;
+    keeper.add(0, None)?;
+    check_eq(number_of(open.before(&mut keeper, 0, 0)), Some(6))?;
+    check_eq(number_of(Open::new(&keeper)), Some(6))
 }
