@@ -39,9 +39,14 @@ pub fn find<W: Word, K: Keeper + Drop>(
     partners: &mut [Option<u16>],
     keeper: K,
 ) -> Finding
-    ensures outcome { record { answer = answered result.verdict; admitted = result.admitted; log = log.new; partners = partners.new } ≡ listed (examined W.Word.value (setting step_pairs W.Word.start) log.old (pile_over (K.Keeper.meaning keeper)) partners.old (file_items W.Word.decoded W.Word.WIDTH file.now)) }
+    ensures outcome { let G = setting step_pairs W.Word.start in
+        let pile = pile_over (K.Keeper.meaning keeper) in
+        let items = file_items W.Word.decoded W.Word.WIDTH file.now in
+        record { answer = answered result.verdict; admitted = result.admitted; log = log.new; partners = partners.new }
+        ≡ listed (examined W.Word.value G log.old pile partners.old items) }
     ensures exact { Told (run_listed W.Word.value log.new result.admitted) result.verdict }
-    ensures complete { held (K.Keeper.meaning keeper) ≡ 0 → Listed (operations_in (file_items W.Word.decoded W.Word.WIDTH file.now)) (take result.admitted log.new) result.verdict }
+    ensures complete { let items = file_items W.Word.decoded W.Word.WIDTH file.now in
+        held (K.Keeper.meaning keeper) ≡ 0 → Listed (operations_in items) (take result.admitted log.new) result.verdict }
 {
     let mut pile = Renumber::new(mirrored_list(), Allowance::new(512, keeper));
     let verdict = examine(file, log, &mut pile, &StepRule, partners);

@@ -34,6 +34,7 @@ pub(crate) fn print_run<W: Word>(
     file: &[u8],
     log: &mut [Operation<W>],
 ) -> io::Result<()> {
+    // Beside the record and not in it: `examine` takes both lent, and the record holds operations alone.
     let mut partners = [None; PLACES];
     let mut numbers = [0u16; 2560];
     let Ok(four) = Processors::new(4) else {

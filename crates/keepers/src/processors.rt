@@ -13,6 +13,7 @@ pub struct Processors {
 }
 
 impl Processors {
+    // A checked constructor, as std's `NonZeroU8::new`: a `TryFrom` would read no plainer.
     pub fn new(count: u8) -> Result<Processors, KeeperFault>
         ensures { MatchResult result (λ p. processor_count count ≡ Ok p.count) (λ f. processor_count count ≡ Err f) }
     {

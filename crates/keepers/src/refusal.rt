@@ -6,7 +6,7 @@ pub enum Adds {
     Offset(usize),
 }
 
-// How a refused call is reported.
+// How a refused call is reported. The number is what users are shown; in the code each refusal is a fault's variant.
 #[derive(Clone, Copy, PartialEq, Eq, Debug)]
 pub struct Refusal {
     pub number: u8,

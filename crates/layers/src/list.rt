@@ -14,7 +14,7 @@ pub struct RenumberList {
 }
 
 impl RenumberList {
-    // 0 to 15 in order.
+    // 0 to 15 in order. No `Default`: which order that is would not be read from its name.
     #[tactic(auto, unfolding(crate::specs::Renumbering::times))]
     pub fn new() -> RenumberList
         ensures { result.entries ≡ range_with_len 0 16 }

@@ -22,6 +22,7 @@ pub trait Word: Copy + PartialEq {
     // The word that so many bytes stand for, the highest byte first.
     ghost decoded: { List ℕ → Self };
 
+    // No `TryFrom`: its bound on every word would be `for<'a> TryFrom<&'a [u8]>`, and no call would be shorter.
     fn decode(bytes: &[u8]) -> Option<Self>
         ensures { result ≡ (if nat_eq (length bytes.now) WIDTH then Some (decoded bytes.now) else None) };
 
