@@ -36,6 +36,7 @@ impl From<&Verdict> for End {
 // operations whether the first is before the second.
 #[derive(Clone, Copy)]
 pub(crate) struct Expected<'a> {
+    // beside the record and not in it, since one record is examined under several rules
     pub(crate) partners: &'a [Option<u16>],
     pub(crate) end: End,
     pub(crate) before: &'a [(u16, u16)],

@@ -7,7 +7,8 @@ use crate::arrows::{self, Arrows};
 use keepers::{Extent, Keeper, KeeperFault, Processors};
 
 // A keeper over lent numbers and lent marks. Operation k has two numbers: its processor and its giver. The marks
-// are of use only while an order question is answered, and are 0 before and after.
+// are of use only while an order question is answered, and are 0 before and after. They stand beside the numbers and
+// operations go by number, since both are lent as plain numbers and bytes.
 #[derive(Drop)]
 pub struct ArrowKeeper<'n, 'm> {
     numbers: &'n mut [u16],

@@ -88,7 +88,8 @@ impl Open {
     }
 
     // Admits an operation: writes it at the next place of the record and adds it to the keeper, with the release
-    // that it is paired with as giver. A refused admission changes nothing.
+    // that it is paired with as giver. A refused admission changes nothing. Record, keeper and rule are lent to each
+    // call by itself, so that nothing is held between two calls.
     pub fn admit<W: Word, K: Keeper, R: PairingRule>(
         &mut self,
         log: &mut [Operation<W>],
