@@ -6,6 +6,8 @@ mod lines;
 mod pile;
 mod table;
 
+ghost use Rattle.std.specs.Prelude.{◌≤◌, length, IfOk};
+
 use lines::Ending;
 use operations::Operation;
 use record_file::{Directory, FileFault, WordType};
@@ -15,6 +17,22 @@ use table::{PLACES, print_run};
 use words::{Count, Edge};
 
 const MOST_BYTES: usize = 16384;
+
+// Fills the front of `room` with what the input has, and answers how much that was. An array and a length, filled by a
+// loop: with a `Vec` the program would reach the C library's allocator, which nothing here has to trust.
+fn read_all(input: &mut impl Read, room: &mut [u8]) -> io::Result<usize>
+    ensures { IfOk result (λ n. n ≤ length room.old) }
+{
+    let mut len = 0;
+    while len < room.len() {
+        let got = input.read(&mut room[len..])?;
+        if got == 0 {
+            break;
+        }
+        len += got;
+    }
+    Ok(len)
+}
 
 // The type of the words in a file that is not too long and whose directory is fit.
 fn word_type(file: &[u8]) -> Result<WordType, FileFault> {
@@ -38,10 +56,8 @@ fn print_file(rt: &HostRuntime, file: &[u8]) -> io::Result<()> {
 }
 
 fn main(rt: HostRuntime) -> io::Result<()> {
-    let mut file = Vec::new(rt.alloc());
-    rt.stdin()
-        .take(MOST_BYTES as u64 + 1)
-        .read_to_end(&mut file)?;
+    let mut file = [0u8; MOST_BYTES + 1];
+    let len = read_all(&mut rt.stdin(), &mut file)?;
     println!(rt; "op proc kind loc partner")?;
-    print_file(&rt, &file)
+    print_file(&rt, &file[..len])
 }
