@@ -68,13 +68,7 @@ impl Rows<'_> {
         ensures { let processors = self.now.extent.processors.count in
             result ≡ latest_of (processor_of self.now.numbers.now processors) processor self.now.extent.count }
     {
-        // No `rev().find(..)`: the check does not find which number of a range it answers.
-        for k in (0..self.extent.count()).rev() {
-            if self.processor_of(k) == processor as u16 {
-                return Some(k);
-            }
-        }
-        None
+        (0..self.extent.count()).rfind(|k| self.processor_of(*k) == processor as u16)
     }
 
     // Whether operation `a` is before operation `b`, both held.

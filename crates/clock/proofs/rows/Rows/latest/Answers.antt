@@ -1,19 +1,16 @@
-use Rattle.std.proofs.Common.{◌≡◌, suc, ◌-◌, sym, ap, ◌∙◌, arith}
+use Rattle.std.proofs.Common.{rules, subst, ap, ◌∙◌}
+use Rattle.std.specs.Iterator.Runs.{ItemsCountDown}
+use Rattle.std.proofs.iter.runs.Sources.{range_runs_back}
 use Rattle.keepers.specs.Adding.{latest_of}
-use Rattle.keepers.proofs.Latest.{latest_here, latest_earlier}
 use Rattle.clock.specs.Rows.{processor_of}
+use Rattle.clock.proofs.Searching.{searched}
 use Rattle.clock.proofs.rows.Rows.latest.Goals as goal
 
-pub returns-then-processor_of-processor : goal.returns-then-processor_of-processor
-returns-then-processor_of-processor c =
-    let s = c.args.self.now in
-    let f = processor_of s.numbers.now s.extent.processors.count in
-    let z : suc (c.loop-k.k - 1) ≡ c.loop-k.k = omega (arith, c.loop-k-test.true) in
-    sym (latest_here f c.args.processor (c.loop-k.k - 1) (sym c.processor_of.ensures ∙ c.if-processor_of-processor.true)) ∙ ap (latest_of f c.args.processor) z ∙ c.loop-k.invariant
-
-pub loop-k-preserved : goal.loop-k-preserved
-loop-k-preserved c =
-    let s = c.args.self.now in
-    let f = processor_of s.numbers.now s.extent.processors.count in
-    let z : suc (c.loop-k.k - 1) ≡ c.loop-k.k = omega (arith, c.loop-k-test.true) in
-    sym (latest_earlier f c.args.processor (c.loop-k.k - 1) (λ e. c.if-processor_of-processor.false (c.processor_of.ensures ∙ e))) ∙ ap (latest_of f c.args.processor) z ∙ c.loop-k.invariant
+pub returns : goal.returns
+returns c =
+    let f = processor_of c.args.self.now.numbers.now c.args.self.now.extent.processors.count in
+    let p = c.args.processor in
+    let runs = c.rfind.ensures.runs in
+    let down = subst (λ s. ItemsCountDown runs.0 s.start s.end) runs.1 (range_runs_back runs.0 runs.0.seen) in
+    searched _ _ f p c.count.result runs.0 (search rules) down (λ x b below called. search rules) c.rfind.result runs.2
+    ∙ ap (latest_of f p) c.count.ensures
