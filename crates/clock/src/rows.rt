@@ -56,11 +56,8 @@ impl Rows<'_> {
         requires admitted { processor < self.now.extent.processors.count }
         ensures { result ≡ count_from self.now.numbers.now self.now.extent.processors.count operation processor }
     {
-        // No `map_or`: the check does not find that the closure's result is the count.
-        match operation {
-            Some(k) => self.count_of(k, processor as u16),
-            None => 0,
-        }
+        let count = |k| self.count_of(k, processor as u16);
+        operation.map_or(0, count)
     }
 
     // The latest operation of a processor.
