@@ -6,7 +6,7 @@ ghost use Rattle.std.specs.Prelude.{◌≡◌, true};
 ghost use Rattle.agreement.specs.Agreement.{same_answer, GivenTheSame, MadeAlike};
 ghost use Rattle.keepers.specs.Asking.{order};
 
-use keepers::Keeper;
+use keepers::{Keeper, KeeperFault};
 
 // Asks two keepers whether operation `a` is before operation `b`, and answers whether they say the same.
 pub fn answer_alike<K: Keeper, L: Keeper>(one: &mut K, other: &mut L, a: u16, b: u16) -> bool
@@ -16,5 +16,12 @@ pub fn answer_alike<K: Keeper, L: Keeper>(one: &mut K, other: &mut L, a: u16, b:
     ensures agree { GivenTheSame (K.Keeper.meaning one.old) (L.Keeper.meaning other.old) → result ≡ true }
     ensures made { MadeAlike (K.Keeper.meaning one.old) (L.Keeper.meaning other.old) → result ≡ true }
 {
-    one.before(a, b) == other.before(a, b)
+    same(one.before(a, b), other.before(a, b))
+}
+
+// Are two answers the same yes or no, or the same refusal?
+fn same(first: Result<bool, KeeperFault>, second: Result<bool, KeeperFault>) -> bool
+    ensures { result ≡ same_answer first second }
+{
+    first == second
 }

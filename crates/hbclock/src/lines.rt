@@ -32,6 +32,7 @@ impl<W> fmt::Display for Line<'_, W> {
 pub(crate) enum Ending {
     RaceFree(u16),
     Racy(u16, RacingPair),
+    // as printed: a file's fault adds an offset, and none of the other things that a `Refusal` may add
     Refused { number: u8, offset: usize },
 }
 

@@ -25,11 +25,11 @@ impl<K: Keeper> Keeper for Allowance<K> {
 
     ghost numbered = { λ s. K.Keeper.numbered s.below };
 
-    // Passed on, as in the other layer: a trait of layers that does it for both would be longer than the four lines.
     fn admits(&self, processor: u8) -> bool {
         self.below.admits(processor)
     }
 
+    // Passed on, as `before` is, and both in the other layer too: a trait that does it for both would be no shorter.
     fn count(&self) -> u16 {
         self.below.count()
     }

@@ -32,6 +32,7 @@ impl<K: Keeper> Keeper for Renumber<K> {
             .is_some_and(|inner| self.below.admits(inner))
     }
 
+    // Passed on, as in the allowance.
     fn count(&self) -> u16 {
         self.below.count()
     }

@@ -14,7 +14,8 @@ pub struct Records<'a> {
     pub bytes: &'a [u8],
 }
 
-// A record of a processor, and where it stands in the file.
+// A record of a processor, and where it stands in the file. A type of its own beside `Records`, which has the same
+// parts, so that no call reads a whole section as one record.
 #[derive(Clone, Copy)]
 pub struct Record<'a> {
     pub processor: u8,

@@ -24,7 +24,7 @@ impl<'a> Iterator for Sections<'a> {
         let i = s.numbers.start in
         (t.directory ≡ s.directory)
         × MatchOption r
-        (s.directory.header.sections ≤ i)
+        ((s.directory.header.sections ≤ i) × (t.numbers ≡ s.numbers))
         (λ x. (i < s.directory.header.sections)
         × (t.numbers.start ≡ i + 1)
         × (x.offset ≡ section_start file i)
