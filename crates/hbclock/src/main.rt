@@ -23,15 +23,10 @@ const MOST_BYTES: usize = 16384;
 fn read_all(input: &mut impl Read, room: &mut [u8]) -> io::Result<usize>
     ensures { IfOk result (λ n. n ≤ length room.old) }
 {
-    let mut len = 0;
-    while len < room.len() {
-        let got = input.read(&mut room[len..])?;
-        if got == 0 {
-            break;
-        }
-        len += got;
-    }
-    Ok(len)
+    let size = room.len();
+    let mut rest = room;
+    let len = io::copy(&mut input.by_ref().take(size as u64), &mut rest)?;
+    Ok(size.min(len as usize))
 }
 
 // The type of the words in a file that is not too long and whose directory is fit.
