@@ -9,6 +9,7 @@ ghost use Rattle.keepers.specs.Asking.{order};
 use keepers::{Keeper, KeeperFault};
 
 // Asks two keepers whether operation `a` is before operation `b`, and answers whether they say the same.
+#[tactic(auto, using(crate::proofs::Alike::given_order, crate::proofs::Alike::made_same))]
 pub fn answer_alike<K: Keeper, L: Keeper>(one: &mut K, other: &mut L, a: u16, b: u16) -> bool
     ensures answer { result ≡ same_answer (order (K.Keeper.meaning one.old) a b) (order (L.Keeper.meaning other.old) a b) }
     ensures one { K.Keeper.meaning one.new ≡ K.Keeper.meaning one.old }

@@ -54,14 +54,17 @@ impl Keeper for ArrowKeeper<'_, '_> {
     ghost numbered = { λ s. arrows_numbered s.numbers.now s.extent.processors.count s.extent.count s.extent.capacity
         s.extent.processors.few };
 
+    #[tactic(auto, using(crate::specs::Bounds::arrows_admits))]
     fn admits(&self, processor: u8) -> bool {
         self.extent.admits(processor)
     }
 
+    #[tactic(auto, using(crate::specs::Bounds::arrows_held))]
     fn count(&self) -> u16 {
         self.extent.count()
     }
 
+    #[tactic(auto, using(crate::specs::Bounds::arrows_room))]
     fn room(&self) -> u16 {
         self.extent.room()
     }
@@ -74,6 +77,7 @@ impl Keeper for ArrowKeeper<'_, '_> {
         self.extent.grow()
     }
 
+    #[tactic(auto, using(keepers::proofs::Extents::question_refused, keepers::proofs::Extents::question_answered, crate::proofs::Meanings::arrows_spans, crate::proofs::Walks::forward))]
     fn before(&mut self, a: u16, b: u16) -> Result<bool, KeeperFault> {
         self.extent.check_question(a, b)?;
         // Lent out as a whole: of a loan of the field itself the check keeps only the length.

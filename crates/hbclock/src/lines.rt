@@ -32,28 +32,15 @@ impl<W> fmt::Display for Line<'_, W> {
 pub(crate) enum Ending {
     RaceFree(u16),
     Racy(u16, RacingPair),
-    // as printed: a file's fault adds an offset, and none of the other things that a `Refusal` may add
-    Refused { number: u8, offset: usize },
+    Refused(FileFault),
 }
 
-impl From<Verdict> for Ending {
-    fn from(verdict: Verdict) -> Ending {
-        match verdict {
-            Verdict::RaceFree(free) => Ending::RaceFree(free.admitted()),
-            Verdict::Racy(racy) => Ending::Racy(racy.racing(), racy.first()),
-        }
-    }
-}
-
-impl From<FileFault> for Ending {
-    fn from(fault: FileFault) -> Ending {
-        let refusal = Refusal::from(fault);
-        let Adds::Offset(offset) = refusal.adds else {
-            return unreachable();
-        };
-        Ending::Refused {
-            number: refusal.number,
-            offset,
+impl From<Result<Verdict, FileFault>> for Ending {
+    fn from(answer: Result<Verdict, FileFault>) -> Ending {
+        match answer {
+            Ok(Verdict::RaceFree(free)) => Ending::RaceFree(free.admitted()),
+            Ok(Verdict::Racy(racy)) => Ending::Racy(racy.racing(), racy.first()),
+            Err(fault) => Ending::Refused(fault),
         }
     }
 }
@@ -67,7 +54,14 @@ impl fmt::Display for Ending {
                 let operation = first.operation;
                 write!(f, "racy {count} {partner} {operation}")
             }
-            Ending::Refused { number, offset } => write!(f, "refused {number} {offset}"),
+            Ending::Refused(fault) => {
+                let refusal = Refusal::from(*fault);
+                let number = refusal.number;
+                let Adds::Offset(offset) = refusal.adds else {
+                    return unreachable();
+                };
+                write!(f, "refused {number} {offset}")
+            }
         }
     }
 }

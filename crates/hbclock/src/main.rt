@@ -44,7 +44,7 @@ fn print_file(rt: &HostRuntime, file: &[u8]) -> io::Result<()> {
         Ok(WordType::Count) => print_run(rt, file, &mut [Operation::<Count>::blank(); PLACES]),
         Ok(WordType::Edge) => print_run(rt, file, &mut [Operation::<Edge>::blank(); PLACES]),
         Err(fault) => {
-            let ending = Ending::from(fault);
+            let ending = Ending::Refused(fault);
             println!(rt; "{ending}")
         }
     }

@@ -15,6 +15,7 @@ use record_file::FileFault;
 use words::Word;
 
 // Entry p is 15 - p.
+#[tactic(auto, using(crate::proofs::Mirroring::mirrored_once))]
 fn mirrored_list() -> RenumberList
     ensures { result.entries ≡ mirrored }
 {

@@ -43,9 +43,6 @@ pub(crate) fn print_run<W: Word>(
     let keeper = ClockKeeper::new(four, &mut numbers);
     let Finding { verdict, admitted } = find(file, log, &mut partners, keeper);
     print_lines(rt, log, &partners, admitted)?;
-    let ending = match verdict {
-        Ok(verdict) => Ending::from(verdict),
-        Err(fault) => Ending::from(fault),
-    };
+    let ending = Ending::from(verdict);
     println!(rt; "{ending}")
 }

@@ -41,6 +41,7 @@ impl<K: Keeper> Keeper for Renumber<K> {
         self.below.room()
     }
 
+    #[tactic(auto, using(crate::proofs::Renaming::after_same, crate::proofs::Renaming::entry_is))]
     fn add(&mut self, processor: u8, giver: Option<u16>) -> Result<u16, KeeperFault> {
         let inner = self.list.entry(processor).ok_or(KeeperFault::NotAdmitted)?;
         self.below.add(inner, giver)
