@@ -23,6 +23,7 @@ pub(crate) fn width(processors: u8) -> usize
     processors as usize + 1
 }
 
+// Four calls ask that an operation is held: a type for one row would ask it once, and say again what its numbers mean.
 impl Rows<'_> {
     fn row(&self, operation: u16) -> &[u16]
         requires { operation < self.now.extent.count }
@@ -91,6 +92,7 @@ impl Rows<'_> {
     {
         let latest = self.latest(processor);
         free[0] = processor as u16;
+        // By number and not by `zip` over the places: the place of a count is its processor's.
         for q in 0..self.extent.processors() {
             let first = self.count_from(latest, q);
             let second = self.count_from(giver, q);

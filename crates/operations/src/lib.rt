@@ -7,7 +7,7 @@ mod operation;
 mod rule;
 mod source;
 
-pub use kind::Kind;
+pub use kind::{Kind, UnknownKind};
 pub use matrix::MatrixRule;
 pub use operation::{Operation, may_race};
 pub use rule::{PairingRule, StepRule};

@@ -113,7 +113,7 @@ impl<'a, W: Word, K: Keeper, R: PairingRule> Admitting<'a, W, K, R> {
 }
 
 // Admits the operations of a record file in turn, once its whole directory is checked. What was admitted before
-// a fault stays admitted. The file's words are read as words of type W.
+// a fault stays admitted. The file's words are read as words of type W. All is lent to this call alone.
 pub fn admit_file<W: Word, K: Keeper, R: PairingRule>(
     file: &[u8],
     exam: &mut Open,

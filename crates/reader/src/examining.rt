@@ -12,7 +12,7 @@ use record_file::{FileFault, Placed};
 use words::Word;
 
 // Opens an examination, admits the operations of a record file in turn, and closes. The racing partner of each
-// admitted operation is noted under its number.
+// admitted operation is noted under its number. Record, keeper and rule are lent to this call alone.
 pub fn examine<W: Word, K: Keeper, R: PairingRule>(
     file: &[u8],
     log: &mut [Operation<W>],

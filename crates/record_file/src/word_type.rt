@@ -6,7 +6,7 @@ ghost use Rattle.record_file.specs.declared.fault.FileFault.TheVariants.{Header 
 use crate::fault::FileFault;
 
 // The type of the words in a record file; the number of each is its code.
-#[derive(Clone, Copy)]
+#[derive(Clone, Copy, PartialEq, Eq, Debug)]
 pub enum WordType {
     Count = 1,
     Edge = 2,
