@@ -6,7 +6,8 @@ ghost use Rattle.keepers.specs.Asking.{order};
 use crate::KeeperFault;
 
 // A keeper holds operations, numbered from 0, and knows which of them is before which. All that a caller
-// may rely on is its meaning; how it stores the order is its own affair.
+// may rely on is its meaning; how it stores the order is its own affair. Operations go by their numbers, and calls take
+// plain parameters, since users write keepers and ask them by the numbers that they show.
 pub trait Keeper {
     ghost meaning: { Self → Meaning };
 
