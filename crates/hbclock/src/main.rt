@@ -18,8 +18,8 @@ use words::{Count, Edge};
 
 const MOST_BYTES: usize = 16384;
 
-// Fills the front of `room` with what the input has, and answers how much that was: no more than there is room for,
-// which `copy` does not say of `take`. No `Vec`: with one the program would reach the C library's allocator, which
+// Fills the front of `room` with what the input has, and answers how much that was. The contract of `copy` sets no bound
+// on it, so the answer is cut to the room. No `Vec`: with one the program would reach the C library's allocator, which
 // nothing here has to trust.
 fn read_all(input: &mut impl Read, room: &mut [u8]) -> io::Result<usize>
     ensures { IfOk result (λ n. n ≤ length room.old) }
