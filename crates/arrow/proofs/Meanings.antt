@@ -9,7 +9,7 @@ use Rattle.arrow.specs.Arrows.{processor_of, giver_of, stored, arrows, Admitted}
 use Rattle.arrow.specs.Bounds.{arrows_admits, arrows_held, arrows_room}
 
 -- a write past the first n numbers
-set_same : (xs ys : List ℕ) (i v n : ℕ) → n ≤ i → SameBelow xs ys n → SameBelow xs (set ys i v) n
+pub set_same : (xs ys : List ℕ) (i v n : ℕ) → n ≤ i → SameBelow xs ys n → SameBelow xs (set ys i v) n
 set_same xs ys i v n h same = λ j d l. get_or-set_other ys i j v d (omega arith) ∙ same j d l
 
 -- two lists with the same first n operations

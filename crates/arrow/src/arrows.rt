@@ -1,5 +1,5 @@
 ghost use Rattle.std.specs.Prelude.{◌≡◌, ℕ, ◌+◌, ◌*◌, ◌<◌, ◌≤◌, length, ◌==◌, slice_index, slice_set};
-ghost use Rattle.keepers.specs.Meaning.{most_processors};
+ghost use Rattle.keepers.specs.Meaning.{most_held, most_processors};
 ghost use Rattle.keepers.specs.Adding.{Among};
 ghost use Rattle.arrow.specs.Arrows.{stored, processor_of, giver_of, with_giver, arrows, Admitted, Clear};
 
@@ -21,8 +21,10 @@ pub(crate) fn stored_giver(giver: Option<u16>) -> u16
 pub(crate) struct Arrows<'a> {
     pub(crate) numbers: &'a [u16],
     pub(crate) extent: Extent,
+    ghost few: { extent.processors ≤ most_processors },
+    ghost fits: { extent.count ≤ most_held },
     ghost within: { 2 * extent.count ≤ length numbers.now },
-    ghost admitted: { Admitted numbers.now extent.processors.count extent.count },
+    ghost admitted: { Admitted numbers.now extent.processors extent.count },
 }
 
 impl Arrows<'_> {
@@ -51,7 +53,7 @@ impl Arrows<'_> {
         requires clear { Clear marks.old }
         ensures clear { Clear marks.new }
         ensures answer { let extent = self.now.extent in
-            result ≡ (arrows self.now.numbers.now extent.processors.count extent.count extent.capacity).before a b }
+            result ≡ (arrows self.now.numbers.now extent.processors extent.count extent.capacity).before a b }
     {
         let mut reached = [false; 16];
         marks[b as usize] = 1;

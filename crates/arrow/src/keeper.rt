@@ -1,5 +1,5 @@
-ghost use Rattle.std.specs.Prelude.{◌≡◌, ◌*◌, ◌≤◌, length};
-ghost use Rattle.keepers.specs.Meaning.{empty};
+ghost use Rattle.std.specs.Prelude.{◌≡◌, ◌*◌, ◌<◌, ◌≤◌, length};
+ghost use Rattle.keepers.specs.Meaning.{empty, most_held, most_processors};
 ghost use Rattle.arrow.specs.Bounds.{arrows_bounded, arrows_numbered};
 ghost use Rattle.arrow.specs.Arrows.{Admitted, Clear, arrows, arrow_room};
 
@@ -14,9 +14,13 @@ pub struct ArrowKeeper<'n, 'm> {
     numbers: &'n mut [u16],
     marks: &'m mut [u8],
     extent: Extent,
+    ghost some: { 0 < extent.processors },
+    ghost few: { extent.processors ≤ most_processors },
+    ghost fits: { extent.capacity ≤ most_held },
+    ghost filled: { extent.count ≤ extent.capacity },
     ghost within: { 2 * extent.capacity ≤ length numbers.now },
     ghost marked: { extent.capacity ≤ length marks.now },
-    ghost admitted: { Admitted numbers.now extent.processors.count extent.count },
+    ghost admitted: { Admitted numbers.now extent.processors extent.count },
     ghost clear: { Clear marks.now },
 }
 
@@ -29,7 +33,7 @@ impl<'n, 'm> ArrowKeeper<'n, 'm> {
         marks: &'m mut [u8],
     ) -> ArrowKeeper<'n, 'm>
         ensures made { let extent = result.extent in
-            arrows result.numbers.now extent.processors.count extent.count extent.capacity
+            arrows result.numbers.now extent.processors extent.count extent.capacity
             ≡ empty processors.count (arrow_room (length numbers.old) (length marks.old)) }
         ensures kept { result.numbers.now ≡ numbers.old }
         ensures cleared { Clear result.marks.now }
@@ -46,13 +50,13 @@ impl<'n, 'm> ArrowKeeper<'n, 'm> {
 }
 
 impl Keeper for ArrowKeeper<'_, '_> {
-    ghost meaning = { λ s. arrows s.numbers.now s.extent.processors.count s.extent.count s.extent.capacity };
+    ghost meaning = { λ s. arrows s.numbers.now s.extent.processors s.extent.count s.extent.capacity };
 
-    ghost bounded = { λ s. arrows_bounded s.numbers.now s.extent.processors.count s.extent.count s.extent.capacity
-        s.extent.filled s.extent.fits };
+    ghost bounded = { λ s. arrows_bounded s.numbers.now s.extent.processors s.extent.count s.extent.capacity
+        s.filled s.fits };
 
-    ghost numbered = { λ s. arrows_numbered s.numbers.now s.extent.processors.count s.extent.count s.extent.capacity
-        s.extent.processors.few };
+    ghost numbered = { λ s. arrows_numbered s.numbers.now s.extent.processors s.extent.count s.extent.capacity
+        s.few };
 
     #[tactic(auto, using(crate::specs::Bounds::arrows_admits))]
     fn admits(&self, processor: u8) -> bool {

@@ -1,5 +1,5 @@
 ghost use Rattle.std.specs.Prelude.{◌≡◌, ◌+◌, ◌*◌, ◌<◌, ◌≤◌, length};
-ghost use Rattle.keepers.specs.Meaning.{empty};
+ghost use Rattle.keepers.specs.Meaning.{empty, most_held, most_processors};
 ghost use Rattle.clock.specs.Bounds.{clock_bounded, clock_numbered};
 ghost use Rattle.clock.specs.Rows.{Sound, clock, clock_room};
 
@@ -11,15 +11,19 @@ use keepers::{Extent, Keeper, KeeperFault, Processors};
 pub struct ClockKeeper<'a> {
     numbers: &'a mut [u16],
     extent: Extent,
-    ghost within: { extent.capacity * (extent.processors.count + 1) ≤ length numbers.now },
-    ghost sound: { Sound numbers.now extent.processors.count extent.count },
+    ghost some: { 0 < extent.processors },
+    ghost few: { extent.processors ≤ most_processors },
+    ghost fits: { extent.capacity ≤ most_held },
+    ghost filled: { extent.count ≤ extent.capacity },
+    ghost within: { extent.capacity * (extent.processors + 1) ≤ length numbers.now },
+    ghost sound: { Sound numbers.now extent.processors extent.count },
 }
 
 impl<'a> ClockKeeper<'a> {
     // An empty keeper, with room for as many operations as the lent numbers have rows, and at most 4,096.
     pub fn new(processors: Processors, numbers: &'a mut [u16]) -> ClockKeeper<'a>
         ensures made { let extent = result.extent in
-            clock result.numbers.now extent.processors.count extent.count extent.capacity
+            clock result.numbers.now extent.processors extent.count extent.capacity
             ≡ empty processors.count (clock_room processors.count (length numbers.old)) }
         ensures kept { result.numbers.now ≡ numbers.old }
     {
@@ -43,13 +47,13 @@ impl ClockKeeper<'_> {
 }
 
 impl Keeper for ClockKeeper<'_> {
-    ghost meaning = { λ s. clock s.numbers.now s.extent.processors.count s.extent.count s.extent.capacity };
+    ghost meaning = { λ s. clock s.numbers.now s.extent.processors s.extent.count s.extent.capacity };
 
-    ghost bounded = { λ s. clock_bounded s.numbers.now s.extent.processors.count s.extent.count s.extent.capacity
-        s.extent.filled s.extent.fits };
+    ghost bounded = { λ s. clock_bounded s.numbers.now s.extent.processors s.extent.count s.extent.capacity
+        s.filled s.fits };
 
-    ghost numbered = { λ s. clock_numbered s.numbers.now s.extent.processors.count s.extent.count s.extent.capacity
-        s.extent.processors.few };
+    ghost numbered = { λ s. clock_numbered s.numbers.now s.extent.processors s.extent.count s.extent.capacity
+        s.few };
 
     fn admits(&self, processor: u8) -> bool {
         self.extent.admits(processor)

@@ -12,8 +12,8 @@ use keepers::Extent;
 pub(crate) struct Rows<'a> {
     pub(crate) numbers: &'a [u16],
     pub(crate) extent: Extent,
-    ghost within: { extent.count * (extent.processors.count + 1) ≤ length numbers.now },
-    ghost sound: { Sound numbers.now extent.processors.count extent.count },
+    ghost within: { extent.count * (extent.processors + 1) ≤ length numbers.now },
+    ghost sound: { Sound numbers.now extent.processors extent.count },
 }
 
 // How many numbers a row has.
@@ -27,7 +27,7 @@ pub(crate) fn width(processors: u8) -> usize
 impl Rows<'_> {
     fn row(&self, operation: u16) -> &[u16]
         requires { operation < self.now.extent.count }
-        ensures { let width = self.now.extent.processors.count + 1 in
+        ensures { let width = self.now.extent.processors + 1 in
             result.now ≡ slice_range self.now.numbers.now (operation * width) (operation * width + width) }
     {
         let width = width(self.extent.processors());
@@ -37,7 +37,7 @@ impl Rows<'_> {
 
     fn processor_of(&self, operation: u16) -> u16
         requires { operation < self.now.extent.count }
-        ensures { result ≡ processor_of self.now.numbers.now self.now.extent.processors.count operation }
+        ensures { result ≡ processor_of self.now.numbers.now self.now.extent.processors operation }
     {
         self.row(operation)[0]
     }
@@ -45,8 +45,8 @@ impl Rows<'_> {
     // How many operations of a processor are before an operation or are it.
     fn count_of(&self, operation: u16, processor: u16) -> u16
         requires held { operation < self.now.extent.count }
-        requires admitted { processor < self.now.extent.processors.count }
-        ensures { result ≡ count_of self.now.numbers.now self.now.extent.processors.count operation processor }
+        requires admitted { processor < self.now.extent.processors }
+        ensures { result ≡ count_of self.now.numbers.now self.now.extent.processors operation processor }
     {
         self.row(operation)[processor as usize + 1]
     }
@@ -54,8 +54,8 @@ impl Rows<'_> {
     // What an operation, if there is one, counts of a processor.
     fn count_from(&self, operation: Option<u16>, processor: u8) -> u16
         requires among { Among operation self.now.extent.count }
-        requires admitted { processor < self.now.extent.processors.count }
-        ensures { result ≡ count_from self.now.numbers.now self.now.extent.processors.count operation processor }
+        requires admitted { processor < self.now.extent.processors }
+        ensures { result ≡ count_from self.now.numbers.now self.now.extent.processors operation processor }
     {
         let count = |k| self.count_of(k, processor as u16);
         operation.map_or(0, count)
@@ -63,7 +63,7 @@ impl Rows<'_> {
 
     // The latest operation of a processor.
     fn latest(&self, processor: u8) -> Option<u16>
-        ensures { let processors = self.now.extent.processors.count in
+        ensures { let processors = self.now.extent.processors in
             result ≡ latest_of (processor_of self.now.numbers.now processors) processor self.now.extent.count }
     {
         (0..self.extent.count()).rfind(|k| self.processor_of(*k) == processor as u16)
@@ -73,7 +73,7 @@ impl Rows<'_> {
     pub(crate) fn is_before(&self, a: u16, b: u16) -> bool
         requires first { a < self.now.extent.count }
         requires second { b < self.now.extent.count }
-        ensures { result ≡ counts self.now.numbers.now self.now.extent.processors.count a b }
+        ensures { result ≡ counts self.now.numbers.now self.now.extent.processors a b }
     {
         let own = self.processor_of(a);
         a != b && self.count_of(a, own) <= self.count_of(b, own)
@@ -82,11 +82,11 @@ impl Rows<'_> {
     // Writes the row of a next operation into the first of the free numbers.
     pub(crate) fn write_next(&self, free: &mut [u16], processor: u8, giver: Option<u16>)
         requires few { self.now.extent.count < most_held }
-        requires room { self.now.extent.processors.count + 1 ≤ length free.old }
+        requires room { self.now.extent.processors + 1 ≤ length free.old }
         requires giver { Among giver self.now.extent.count }
         ensures named { slice_index free.new 0 ≡ processor }
         ensures counted { let numbers = self.now.numbers.now in
-            let processors = self.now.extent.processors.count in
+            let processors = self.now.extent.processors in
             let latest = latest_of (processor_of numbers processors) processor self.now.extent.count in
             (q : ℕ) → q < processors → slice_index free.new (q + 1) ≡ new_count numbers processors processor latest giver q }
     {

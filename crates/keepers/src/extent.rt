@@ -5,34 +5,34 @@ ghost use Rattle.keepers.specs.Extent.{next_number, next_count, question};
 use crate::{KeeperFault, Processors};
 
 // How far a keeper over lent memory reaches: how many processors it admits, how many operations it has places
-// for, and how many of those it holds.
+// for, and how many of those it holds. It has no invariant; the keepers state them. A keeper holds a `&mut`, and with an
+// invariant in a struct inside it the check would not cover a layer over the keeper, or an Option of it, where it is
+// made.
 #[derive(Clone, Copy, PartialEq, Eq, Debug)]
 pub struct Extent {
-    processors: Processors,
+    processors: u8,
     capacity: u16,
     count: u16,
-    ghost fits: { capacity ≤ most_held },
-    ghost filled: { count ≤ capacity },
 }
 
 impl Extent {
     // That of a keeper that holds nothing; it uses at most 4,096 of the places that it is lent.
     pub fn new(processors: Processors, places: usize) -> Extent
-        ensures processors { result.processors ≡ processors }
+        ensures processors { result.processors ≡ processors.count }
         ensures capacity { result.capacity ≡ min most_held places }
         ensures empty { result.count ≡ 0 }
     {
         Extent {
-            processors,
+            processors: processors.count(),
             capacity: places.min(4096) as u16,
             count: 0,
         }
     }
 
     pub fn processors(&self) -> u8
-        ensures { result ≡ self.now.processors.count }
+        ensures { result ≡ self.now.processors }
     {
-        self.processors.count()
+        self.processors
     }
 
     pub fn count(&self) -> u16
@@ -45,13 +45,13 @@ impl Extent {
     pub fn room(&self) -> u16
         ensures { result ≡ self.now.capacity - self.now.count }
     {
-        self.capacity - self.count
+        self.capacity.saturating_sub(self.count)
     }
 
     pub fn admits(&self, processor: u8) -> bool
-        ensures { result ≡ nat_lt processor self.now.processors.count }
+        ensures { result ≡ nat_lt processor self.now.processors }
     {
-        processor < self.processors.count()
+        processor < self.processors
     }
 
     pub fn holds(&self, operation: u16) -> bool

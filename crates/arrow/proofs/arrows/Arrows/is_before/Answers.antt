@@ -18,8 +18,8 @@ loop-k-init c =
       later = omega (arith, c.requires.later);
       size = refl;
       search =
-          ap (found xs e.processors.count e.count e.capacity c.args.a (set ms b 1) fs) (add-one b)
-          ∙ found_start xs e.processors.count e.count e.capacity c.args.a ms fs b c.requires.later c.requires.marked c.requires.clear (λ p h. get_or-replicate most_processors p false false h);
+          ap (found xs e.processors e.count e.capacity c.args.a (set ms b 1) fs) (add-one b)
+          ∙ found_start xs e.processors e.count e.capacity c.args.a ms fs b c.requires.later c.requires.marked c.requires.clear (λ p h. get_or-replicate most_processors p false false h);
       outside = subst (ClearOutside (set ms b 1) c.args.a) (sym (add-one b)) (outside_start ms c.args.a b c.requires.later c.requires.clear);
     }
 
@@ -47,10 +47,10 @@ loop-k-preserved-in-loop-k c =
       later = later;
       size = length-set fs c.processor-processor.result true ∙ i.size;
       search =
-          ap (λ q. found xs e.processors.count e.count e.capacity c.args.a q (set fs c.processor-processor.result true) k) to
-          ∙ ap (λ q. found xs e.processors.count e.count e.capacity c.args.a (with_giver (set ms k 0) c.args.a (giver_of xs k)) (set fs q true) k) p
-          ∙ found_yes xs e.processors.count e.count e.capacity c.args.a ms fs k later (omega (arith, c.loop-k.auto.k, c.requires.held)) few (omega arith) i.size hit
-          ∙ ap (found xs e.processors.count e.count e.capacity c.args.a ms fs) z
+          ap (λ q. found xs e.processors e.count e.capacity c.args.a q (set fs c.processor-processor.result true) k) to
+          ∙ ap (λ q. found xs e.processors e.count e.capacity c.args.a (with_giver (set ms k 0) c.args.a (giver_of xs k)) (set fs q true) k) p
+          ∙ found_yes xs e.processors e.count e.capacity c.args.a ms fs k later (omega (arith, c.loop-k.auto.k, c.requires.held)) few (omega arith) i.size hit
+          ∙ ap (found xs e.processors e.count e.capacity c.args.a ms fs) z
           ∙ i.search;
       outside = subst (λ q. ClearOutside q c.args.a k) (sym to) (outside_giver (set ms k 0) c.args.a k (giver_of xs k) (giver_among xs k) (outside_less ms c.args.a k inside (subst (ClearOutside ms c.args.a) (sym z) i.outside)));
     }
@@ -73,9 +73,9 @@ loop-k-preserved c =
       later = later;
       size = i.size;
       search =
-          ap (λ q. found xs e.processors.count e.count e.capacity c.args.a q fs k) to
-          ∙ found_no xs e.processors.count e.count e.capacity c.args.a ms fs k later (omega (arith, c.loop-k.auto.k, c.requires.held)) few (sym c.take_mark-marked.ensures.answer ∙ c.if-marked.false) (ap (is_reached fs) (sym p) ∙ c.if-reached-processor.false)
-          ∙ ap (found xs e.processors.count e.count e.capacity c.args.a ms fs) z
+          ap (λ q. found xs e.processors e.count e.capacity c.args.a q fs k) to
+          ∙ found_no xs e.processors e.count e.capacity c.args.a ms fs k later (omega (arith, c.loop-k.auto.k, c.requires.held)) few (sym c.take_mark-marked.ensures.answer ∙ c.if-marked.false) (ap (is_reached fs) (sym p) ∙ c.if-reached-processor.false)
+          ∙ ap (found xs e.processors e.count e.capacity c.args.a ms fs) z
           ∙ i.search;
       outside = subst (λ q. ClearOutside q c.args.a k) (sym to) (outside_less ms c.args.a k inside (subst (ClearOutside ms c.args.a) (sym z) i.outside));
     }
@@ -93,6 +93,6 @@ returns-else-marked-2-clause-answer c =
     let few : processor_of xs a < most_processors = omega (arith, p, c.processor.ensures.few) in
     ap (is_reached fs) p
     ∙ ap (λ t. t || is_reached fs (processor_of xs a)) (sym c.if-marked-2.false ∙ c.take_mark-marked-2.ensures.answer)
-    ∙ sym (found_end xs e.processors.count e.count e.capacity a ms fs few)
-    ∙ ap (found xs e.processors.count e.count e.capacity a ms fs) z
+    ∙ sym (found_end xs e.processors e.count e.capacity a ms fs few)
+    ∙ ap (found xs e.processors e.count e.capacity a ms fs) z
     ∙ i.search

@@ -11,6 +11,6 @@ invariant-loop-k l =
     record {
       later : l.a < l.k;
       size : length l.reached ≡ most_processors;
-      search : found xs e.processors.count e.count e.capacity l.a l.marks l.reached l.k ≡ (arrows xs e.processors.count e.count e.capacity).before l.a l.b;
+      search : found xs e.processors e.count e.capacity l.a l.marks l.reached l.k ≡ (arrows xs e.processors e.count e.capacity).before l.a l.b;
       outside : ClearOutside l.marks l.a l.k;
     }

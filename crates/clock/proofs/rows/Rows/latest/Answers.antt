@@ -8,7 +8,7 @@ use Rattle.clock.proofs.rows.Rows.latest.Goals as goal
 
 pub returns : goal.returns
 returns c =
-    let f = processor_of c.args.self.now.numbers.now c.args.self.now.extent.processors.count in
+    let f = processor_of c.args.self.now.numbers.now c.args.self.now.extent.processors in
     let p = c.args.processor in
     let runs = c.rfind.ensures.runs in
     let down = subst (λ s. ItemsCountDown runs.0 s.start s.end) runs.1 (range_runs_back runs.0 runs.0.seen) in
