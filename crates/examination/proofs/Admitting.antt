@@ -78,7 +78,7 @@ module _ {W : Type 0} (value : W → List ℤ) (G : Setting) (xs : List (Operati
     is_taken : Taken G E e
     is_taken = taken G E e (sym ok) k (ap (addition m op.processor) (sym gives) ∙ sym add)
 
-    number_is : k ≡ o.admitted
+    pub number_is : k ≡ o.admitted
     number_is = (accepted m op.processor giver k (sym add)).number ∙ is_taken.passes.count
 
     pub record Done (m₂ : Meaning) (o₁ : Open) (partner : Option ℕ) : Type 0 where

@@ -1,4 +1,3 @@
-pub mod Shown
 pub mod Checking
 pub mod Admitting
 pub mod Reaching

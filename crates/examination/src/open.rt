@@ -1,6 +1,6 @@
-ghost use Rattle.std.specs.Prelude.{◌≡◌, ◌≤◌};
+ghost use Rattle.std.specs.Prelude.{◌≡◌, ◌≤◌, is_some, nat_lt};
 ghost use Rattle.keepers.specs.Meaning.{most_held};
-ghost use Rattle.examination.specs.Races.{racing};
+ghost use Rattle.examination.specs.Races.{racing, first_race};
 
 use crate::order::Examination;
 use crate::races::Races;
@@ -12,6 +12,7 @@ pub struct Open {
     pub(crate) races: Option<Races>,
     ghost few: { admitted ≤ most_held },
     ghost fewer: { racing races ≤ admitted },
+    ghost shown: { is_some (first_race races) ≡ nat_lt 0 (racing races) },
 }
 
 impl Examination for Open {

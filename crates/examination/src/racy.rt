@@ -1,4 +1,4 @@
-ghost use Rattle.std.specs.Prelude.{◌≡◌, ◌≤◌};
+ghost use Rattle.std.specs.Prelude.{◌≡◌};
 
 use crate::order::Examination;
 use crate::races::{Races, RacingPair};
@@ -8,7 +8,6 @@ use crate::races::{Races, RacingPair};
 pub struct Racy {
     pub(crate) admitted: u16,
     pub(crate) races: Races,
-    ghost fewer: { races.count ≤ admitted },
 }
 
 impl Examination for Racy {

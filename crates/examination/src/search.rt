@@ -23,6 +23,20 @@ pub(crate) fn giver<W: Word, R: PairingRule>(
     paired_release(&log[..n as usize], rule, next).map(|release| release as u16)
 }
 
+// Is a held operation before another one? The keeper refuses no question about held operations. With `== Ok(false)` in
+// place of this branch, each step of a search also checked again that both are held.
+fn is_before<K: Keeper>(keeper: &mut K, a: u16, b: u16) -> bool
+    requires first { a < held (K.Keeper.meaning keeper.old) }
+    requires second { b < held (K.Keeper.meaning keeper.old) }
+    ensures value { result ≡ (K.Keeper.meaning keeper.old).before a b }
+    ensures same { K.Keeper.meaning keeper.new ≡ K.Keeper.meaning keeper.old }
+{
+    let Ok(answer) = keeper.before(a, b) else {
+        return unreachable();
+    };
+    answer
+}
+
 // Is neither of two held operations before the other?
 fn unordered<K: Keeper>(keeper: &mut K, a: u16, b: u16) -> bool
     requires first { a < held (K.Keeper.meaning keeper.old) }
@@ -30,23 +44,30 @@ fn unordered<K: Keeper>(keeper: &mut K, a: u16, b: u16) -> bool
     ensures value { result ≡ unordered_by (K.Keeper.meaning keeper.old).before a b }
     ensures same { K.Keeper.meaning keeper.new ≡ K.Keeper.meaning keeper.old }
 {
-    keeper.before(a, b) == Ok(false) && keeper.before(b, a) == Ok(false)
+    !is_before(keeper, a, b) && !is_before(keeper, b, a)
 }
 
-// Are two recorded operations in a data race, by the keeper's order?
+// Is recorded operation `a` in a data race with recorded operation `b`, which is `other`, by the keeper's order?
 #[tactic(auto, using(operations::proofs::Searching::at_events))]
-fn races<W: Word, K: Keeper>(log: &[Operation<W>], keeper: &mut K, a: u16, b: u16) -> bool
-    requires recorded { (a < length log.now) × (b < length log.now) }
+fn races<W: Word, K: Keeper>(
+    log: &[Operation<W>],
+    keeper: &mut K,
+    a: u16,
+    b: u16,
+    other: &Operation<W>,
+) -> bool
+    requires recorded { a < length log.now }
     requires kept { (a < held (K.Keeper.meaning keeper.old)) × (b < held (K.Keeper.meaning keeper.old)) }
+    requires named { event W.Word.value other.now ≡ at (events W.Word.value log.now) b }
     ensures value { let op = at (events W.Word.value log.now) in
         result ≡ races_by (K.Keeper.meaning keeper.old).before op a b }
     ensures same { K.Keeper.meaning keeper.new ≡ K.Keeper.meaning keeper.old }
 {
-    may_race(&log[a as usize], &log[b as usize]) && unordered(keeper, a, b)
+    may_race(&log[a as usize], other) && unordered(keeper, a, b)
 }
 
 // The latest operation earlier than number `n` in a data race with it, by the keeper's order.
-#[tactic(auto, using(operations::proofs::Searching::such_hit, operations::proofs::Searching::such_miss))]
+#[tactic(auto, using(operations::proofs::Searching::at_events, operations::proofs::Searching::such_hit, operations::proofs::Searching::such_miss))]
 pub(crate) fn partner_of<W: Word, K: Keeper>(
     log: &[Operation<W>],
     keeper: &mut K,
@@ -58,9 +79,11 @@ pub(crate) fn partner_of<W: Word, K: Keeper>(
         result ≡ racing_partner (K.Keeper.meaning keeper.old).before op n }
     ensures same { K.Keeper.meaning keeper.new ≡ K.Keeper.meaning keeper.old }
 {
+    // read once, and not again for each operation that it is compared with
+    let newest = log[n as usize];
     // a `for`: what a closure does to the keeper is not known once `find` has taken it
     for k in (0..n).rev() {
-        if races(log, keeper, k, n) {
+        if races(log, keeper, k, n, &newest) {
             return Some(k);
         }
     }
