@@ -18,16 +18,21 @@ use words::{Count, Edge};
 
 const MOST_BYTES: usize = 16384;
 
-// Fills the front of `room` with what the input has, and answers how much that was. The contract of `copy` sets no bound
-// on it, so the answer is cut to the room. No `Vec`: with one the program would reach the C library's allocator, which
-// nothing here has to trust.
+// Fills the front of `room` with what the input has, and answers how much that was. Each read may fill all that is left:
+// `io::copy` takes at most 8,192 bytes at a time, which cuts a packet short, and clears as much before each read. No
+// `Vec`: with one the program would reach the C library's allocator, which nothing here has to trust.
 fn read_all(input: &mut impl Read, room: &mut [u8]) -> io::Result<usize>
     ensures { IfOk result (λ n. n ≤ length room.old) }
 {
-    let size = room.len();
-    let mut rest = room;
-    let len = io::copy(&mut input.by_ref().take(size as u64), &mut rest)?;
-    Ok(size.min(len as usize))
+    let mut len = 0;
+    while len < room.len() {
+        let got = input.read(&mut room[len..])?;
+        if got == 0 {
+            break;
+        }
+        len += got;
+    }
+    Ok(len)
 }
 
 // The type of the words in a file that is not too long and whose directory is fit.
