@@ -16,7 +16,7 @@ module _ (xs : List ℕ) (m : Meaning) where
   abbrev R : Meaning
   R = renumbered xs m
 
-  held_same : held R ≡ held m
+  pub held_same : held R ≡ held m
   held_same = length-map m.processors (place xs)
 
   giver_same : (o : Option ℕ) → giver_held R o ≡ giver_held m o
@@ -28,7 +28,7 @@ module _ (xs : List ℕ) (m : Meaning) where
   reaches_same a (Some k) = refl
 
   module _ (l : length xs ≡ 16) (o : Once xs) (p : ℕ) (h : p < 16) where
-    addition_same : (g : Option ℕ) → addition R p g ≡ addition m (get_or xs p 0) g
+    pub addition_same : (g : Option ℕ) → addition R p g ≡ addition m (get_or xs p 0) g
     addition_same g = let given = giver_same g in let count = held_same in grind (arith, nat_tests)
 
     latest_same : latest R p ≡ latest m (get_or xs p 0)
@@ -46,7 +46,7 @@ module _ (xs : List ℕ) (m : Meaning) where
     processors_same : (g : Option ℕ) → (added R p g).processors ≡ map (place xs) (added m (get_or xs p 0) g).processors
     processors_same g = ap (λ q. map (place xs) m.processors ++ (q ∷ [])) (sym (place_entry xs l o p h)) ∙ sym (map_push (place xs) m.processors (get_or xs p 0))
 
-    added_same : (g : Option ℕ) → added R p g ≡ renumbered xs (added m (get_or xs p 0) g)
+    pub added_same : (g : Option ℕ) → added R p g ≡ renumbered xs (added m (get_or xs p 0) g)
     added_same g = λ i. record { admits = R.admits; processors = processors_same g i; before = before_same g i; room = m.room - 1 }
 
     answered_same : (g : Option ℕ) (r : Result ℕ KeeperFault) → renumbered xs (answered m (get_or xs p 0) g r) ≡ answered R p g r

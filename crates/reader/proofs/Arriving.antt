@@ -40,7 +40,7 @@ module _ {W : Type 0} (value : W → List ℤ) (G : Setting) where
       t.after ∙ ap (λ es. record { events = es; keeper = keeper_with G (exam_of value s) (event value o); numbers = noted s.numbers (partner_of G (exam_of value s) (event value o)) }) (sym (map-set (event value) s.log s.numbers.admitted o)) in
       subst (Reached G) step (reached_more G (exam_of value s) (admit (event value o)) r)
 
-  read_reached : (s : Reading W) (items : List (Item W)) → Reached G (exam_of value s) → Reached G (exam_of value (read value G s items).left)
+  pub read_reached : (s : Reading W) (items : List (Item W)) → Reached G (exam_of value s) → Reached G (exam_of value (read value G s items).left)
   read_reached s [] r = r
   read_reached s (stop f ∷ items) r = r
   read_reached s (operation at o ∷ items) r = go (admission G (exam_of value s) (event value o)) refl (λ q. read_reached (with_operation value G s o) items q)
@@ -52,13 +52,13 @@ module _ {W : Type 0} (value : W → List ℤ) (G : Setting) where
       go (Err f) is rest = r
 
   -- a verdict that is exact for the examination is exact for what the keeper holds of the record
-  told : (s : Reading W) (x : Said) → Reached G (exam_of value s) → VerdictExact s.numbers x → Holds (run_of value G s.log s.keeper) x
+  pub told : (s : Reading W) (x : Said) → Reached G (exam_of value s) → VerdictExact s.numbers x → Holds (run_of value G s.log s.keeper) x
   told s x r exact =
       let count : held s.keeper ≡ s.numbers.admitted = (reached_sound G (exam_of value s) r).keeps.count in
       subst (λ k. Holds (record { size = k; op = at (events value s.log); pairs = G.pairs }) x) (sym count) (exact G (exam_of value s) r refl)
 
   -- opening was not refused
-  newly_opened : (log : List (Operation W)) (m : Meaning) (o : Open) (partners : List (Option ℕ)) → Ok (tally o) ≡ opening m → Reached G (exam_of value (reading log m o partners))
+  pub newly_opened : (log : List (Operation W)) (m : Meaning) (o : Open) (partners : List (Option ℕ)) → Ok (tally o) ≡ opening m → Reached G (exam_of value (reading log m o partners))
   newly_opened log m o partners opens = record {
     start = exam_of value (reading log m o partners);
     calls = [];
@@ -75,7 +75,7 @@ module _ {W : Type 0} (value : W → List ℤ) (G : Setting) where
   next_place : (s : Reading W) (o : Operation W) → s.numbers.admitted < length s.log → take (with_operation value G s o).numbers.admitted (with_operation value G s o).log ≡ take s.numbers.admitted s.log ++ (o ∷ [])
   next_place s o h = ap (λ k. take k (set s.log s.numbers.admitted o)) (noted_admitted s.numbers (partner_of G (exam_of value s) (event value o))) ∙ take-suc-set s.log s.numbers.admitted o h
 
-  read_kept : (s : Reading W) (items : List (Item W)) → Kept s items (read value G s items)
+  pub read_kept : (s : Reading W) (items : List (Item W)) → Kept s items (read value G s items)
   read_kept s [] = record { rest = []; same = refl; all = λ e. refl }
   read_kept s (stop f ∷ items) = record { rest = []; same = refl; all = λ e. refl }
   read_kept s (operation at o ∷ items) = go (admission G (exam_of value s) (event value o)) refl (read_kept (with_operation value G s o) items)
@@ -93,24 +93,15 @@ module _ {W : Type 0} (value : W → List ℤ) (G : Setting) where
             all = k.all;
           }
 
-  opened_none : (m : Meaning) (o : Open) → Ok (tally o) ≡ opening m → o.admitted ≡ 0
+  pub opened_none : (m : Meaning) (o : Open) → Ok (tally o) ≡ opening m → o.admitted ≡ 0
   opened_none m o opens = grind arith
 
-  -- a reading of a file into a newly opened examination
-  module _ (log : List (Operation W)) (m : Meaning) (o : Open) (partners : List (Option ℕ)) (items : List (Item W)) (opens : Ok (tally o) ≡ opening m) (s' : Reading W) where
-    abbrev s : Reading W
-    s = reading log m o partners
-
-    arrived : (r : Result (Unit {0}) FileFault) → ended r s' ≡ read value G s items → Reached G (exam_of value s')
-    arrived r is = subst (λ e. Reached G (exam_of value e.left)) (sym is) (read_reached s items (newly_opened log m o partners opens))
-
-    pub told_of : (r : Result (Unit {0}) FileFault) → ended r s' ≡ read value G s items → (x : Said) → VerdictExact s'.numbers x → Holds (run_of value G s'.log s'.keeper) x
-    told_of r is x exact = told s' x (arrived r is) exact
-
+  -- the same of a reading into a newly opened examination
+  module _ (s s' : Reading W) (items : List (Item W)) (none : s.numbers.admitted ≡ 0) (arrived : Reached G (exam_of value s')) where
     listed_so_far : (r : Result (Unit {0}) FileFault) → ended r s' ≡ read value G s items → Kept s items (ended r s') → (rest : List (Operation W)) × (operations_in items ≡ take (held s'.keeper) s'.log ++ rest) × (r ≡ Ok tt → rest ≡ [])
     listed_so_far r is k =
-        let count : held s'.keeper ≡ s'.numbers.admitted = (reached_sound G (exam_of value s') (arrived r is)).keeps.count in
-        (k.rest, ap (λ j. take j log ++ operations_in items) (sym (opened_none m o opens)) ∙ k.same ∙ ap (λ j. take j s'.log ++ k.rest) (sym count), k.all)
+        let count : held s'.keeper ≡ s'.numbers.admitted = (reached_sound G (exam_of value s') arrived).keeps.count in
+        (k.rest, ap (λ j. take j s.log ++ operations_in items) (sym none) ∙ k.same ∙ ap (λ j. take j s'.log ++ k.rest) (sym count), k.all)
 
     pub listed_some : (f : FileFault) → ended (Err f) s' ≡ read value G s items → (rest : List (Operation W)) × (operations_in items ≡ take (held s'.keeper) s'.log ++ rest)
     listed_some f is = let l = listed_so_far (Err f) is (subst (Kept s items) (sym is) (read_kept s items)) in (l.0, l.1)
@@ -119,3 +110,14 @@ module _ {W : Type 0} (value : W → List ℤ) (G : Setting) where
     listed_all is =
         let l = listed_so_far (Ok tt) is (subst (Kept s items) (sym is) (read_kept s items)) in
         l.1 ∙ ap (λ z. take (held s'.keeper) s'.log ++ z) (l.2 refl) ∙ append-nil (take (held s'.keeper) s'.log)
+
+  -- a reading of a file into a newly opened examination
+  module _ (log : List (Operation W)) (m : Meaning) (o : Open) (partners : List (Option ℕ)) (items : List (Item W)) (opens : Ok (tally o) ≡ opening m) (s' : Reading W) where
+    abbrev s : Reading W
+    s = reading log m o partners
+
+    pub arrived : (r : Result (Unit {0}) FileFault) → ended r s' ≡ read value G s items → Reached G (exam_of value s')
+    arrived r is = subst (λ e. Reached G (exam_of value e.left)) (sym is) (read_reached s items (newly_opened log m o partners opens))
+
+    pub told_of : (r : Result (Unit {0}) FileFault) → ended r s' ≡ read value G s items → (x : Said) → VerdictExact s'.numbers x → Holds (run_of value G s'.log s'.keeper) x
+    told_of r is x exact = told s' x (arrived r is) exact
