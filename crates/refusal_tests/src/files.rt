@@ -37,8 +37,6 @@ fn at(number: u8, offset: usize) -> End {
 
 // Examines a file of counts over a keeper with an allowance, in a record of four places, and compares how it ends and
 // how many operations are admitted by then.
-//
-// Generic, since the borrow checker covers no type argument that is a layer over the clock keeper itself.
 fn over<K: Keeper + Drop>(
     keeper: K,
     allowance: usize,
